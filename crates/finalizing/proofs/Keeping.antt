@@ -30,6 +30,22 @@ zeros-at zero i z = refl
 zeros-at (suc n) zero z = refl
 zeros-at (suc n) (suc i) z = zeros-at n i z
 
+-- the order's first places held 0
+blank-front : {n k : ℕ} {m o : List ℕ} → Blanks n m o → k ≤ n → take k o ≡ replicate k 0
+blank-front {n} {k} {m} {o} b few =
+    let r : k ≤ length o = omega (arith, b .room) in
+    ext-getD 0 (take k o) (replicate k 0) (length-take-le k o r ∙ sym (length-replicate k 0))
+    (λ i l. (let l′ : i < k = omega (arith, length-take-le k o r) in getD-take k o i 0 l′ ∙ b .order i (omega arith) ∙ sym (getD-replicate k i 0 0 l′)))
+
+-- the marks undone, marks and order are at rest again
+pub at-rest : {s : List ℕ} {n k : ℕ} {m o m₁ o₁ m₂ o₂ : List ℕ} → Blanks n m o → Scanned s n o 0 m₁ o₁ k → Unmarked m₁ o₁ k m₂ o₂ → (m₂ ≡ m) × (o₂ ≡ o)
+at-rest {n = n} {k = k} {m = m} {o = o} {m₁ = m₁} b p u =
+    let few : k ≤ n = omega (arith, ones-le m₁, p .count, p .marks-length) in
+    (u .marks ∙ ap (λ (j : ℕ). replicate j 0) (p .marks-length) ∙ sym (b .marks), u .order ∙ rw (p .rest, ← blank-front b few) (take-append-drop k o))
+
+pub scanned-tracked : {s : List ℕ} {n k : ℕ} {m o m₁ o₁ : List ℕ} → Blanks n m o → Scanned s n o 0 m₁ o₁ k → Tracked m₁ o₁ k
+scanned-tracked {m₁ = m₁} b p = listing-tracked (p .marks-length) (omega (arith, ones-le m₁, p .count, p .marks-length, b .room, p .order-length)) (p .listing)
+
 module _ {s x c : List ℕ} {n : ℕ} {m o : List ℕ} (g : Sound s x c n) (b : Blanks n m o) where
   blank-length : length m ≡ n
   blank-length = ap length (b .marks) ∙ length-replicate n 0
@@ -52,7 +68,7 @@ module _ {s x c : List ℕ} {n : ℕ} {m o : List ℕ} (g : Sound s x c n) (b : 
     first-listable = record { few = g .slots-max; slots-fit = g .slots-fit; scalars-fit = g .scalars-fit; len = p .scanned .marks-length; halves = λ i l. g .each i l .half-high }
 
     pub first-tracked : Tracked m₁ o₁ k
-    first-tracked = listing-tracked (p .scanned .marks-length) (omega (arith, few, b .room, p .scanned .order-length)) (p .scanned .listing)
+    first-tracked = scanned-tracked b (p .scanned)
 
     module _ {f : ℕ} (e : f ≡ length (droppedSlots s x m₁ n)) where
       found-few : f ≤ n
@@ -69,20 +85,8 @@ module _ {s x c : List ℕ} {n : ℕ} {m o : List ℕ} (g : Sound s x c n) (b : 
           (λ i l. (let l′ : i < f = omega (arith, length-take-le f (drop k o) r) in
           getD-take f (drop k o) i 0 l′ ∙ getD-drop k o i 0 ∙ b .order (k + i) (omega (arith, few, found-few)) ∙ sym (getD-replicate f i 0 0 l′)))
 
-    -- the order's first places held 0
-    blank-front : take k o ≡ replicate k 0
-    blank-front =
-        let r : k ≤ length o = omega (arith, few, b .room) in
-        ext-getD 0 (take k o) (replicate k 0) (length-take-le k o r ∙ sym (length-replicate k 0))
-        (λ i l. (let l′ : i < k = omega (arith, length-take-le k o r) in getD-take k o i 0 l′ ∙ b .order i (omega (arith, few)) ∙ sym (getD-replicate k i 0 0 l′)))
-
     pub undone : {f : ℕ} {p₀ m₂ o₂ : List ℕ} → Unmarked m₁ o₁ k m₂ o₂ → (w : List ℕ) → f ≡ length w → length p₀ < f → TooFew w m o p₀ m₂ o₂ p₀
-    undone u w e l = record {
-      short = omega (arith, e);
-      marks = u .marks ∙ ap (λ (j : ℕ). replicate j 0) (p .scanned .marks-length) ∙ sym (b .marks);
-      order = u .order ∙ rw (p .scanned .rest, ← blank-front) (take-append-drop k o);
-      places = refl;
-    }
+    undone u w e l = let q = at-rest b (p .scanned) u in record { short = omega (arith, e); marks = q .0; order = q .1; places = refl }
 
 -- from the code's marks to the definitions
 module _ (l : Layout) (s x c : List ℕ) {n : ℕ} {roots m o m₁ o₁ : List ℕ} {k : ℕ} (b : Blanks n m o) (p : Phased s n (children l s x c) roots m o 0 m₁ o₁ k) where

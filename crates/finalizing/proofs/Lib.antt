@@ -5,3 +5,4 @@ pub mod Filling
 pub mod Listing
 pub mod Keeping
 pub mod Found
+pub mod Finalized
