@@ -1,8 +1,8 @@
 use native.Mathlib.Omega.{arith}
 use Rattle.account.specs.AccountLaws.{saturated-below, saturated-above}
-use Prim.Native.Nat.{ℕ, _*_, _/_, _<_, _≤_}
+use Prim.Native.Nat.{_*_, _<_, _≤_}
 use native.Mathlib.Nat.{le-div-iff-mul-le, div-lt-iff-lt-mul, pos-of-ne-zero, mul-zero}
-use mathlib.Core.Path.{_≡_, sym, ap, _∙_}
+use mathlib.Core.Path.{sym}
 use borrow.Author.Needs.{needs}
 use Rattle.account.proofs.saturating_mul.Statement.{statement}
 use Rattle.account.proofs.saturating_mul.Tie as tie

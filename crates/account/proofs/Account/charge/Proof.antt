@@ -1,6 +1,6 @@
 use native.Mathlib.Omega.{arith}
-use borrow.Author.Tests.{le-leb, lt-leb, le-ltb, lt-ltb}
-use Rattle.account.specs.AccountLaws.{saturated-below, saturated-above}
+use borrow.Author.Tests.{le-leb, lt-leb}
+use Rattle.account.specs.AccountLaws.{saturated-below}
 use Rattle.account.specs.Account.{fits, charged, chargeOf}
 use borrow.Author.Needs.{needs}
 use Rattle.account.proofs.Account.charge.Statement.{statement}

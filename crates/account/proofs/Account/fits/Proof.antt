@@ -1,5 +1,5 @@
 use native.Mathlib.Omega.{arith}
-use Rattle.account.specs.AccountLaws.{saturated-below, saturated-above}
+use Rattle.account.specs.AccountLaws.{saturated-below}
 use Rattle.account.specs.Account.{fits}
 use borrow.Author.Needs.{needs}
 use Rattle.account.proofs.Account.fits.Statement.{statement}

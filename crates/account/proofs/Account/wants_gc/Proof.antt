@@ -1,6 +1,4 @@
-use native.Mathlib.Omega.{arith}
 use borrow.Author.Tests.{le-leb, lt-leb, le-ltb, lt-ltb}
-use Rattle.account.specs.AccountLaws.{saturated-below, saturated-above}
 use Rattle.account.specs.Account.{wantsCollection}
 use borrow.Author.Needs.{needs}
 use Rattle.account.proofs.Account.wants_gc.Statement.{statement}
