@@ -17,7 +17,7 @@ use Rattle.history.proofs.Allocations.{live-after, keepLive, keepTo, Fr
 use Rattle.history.proofs.Relation.{Sim}
 use Rattle.history.proofs.Change.{change-live, change-fresh}
 use Rattle.history.proofs.Reaching.{beq-eq}
-use Rattle.history.proofs.Whole.{in-bounds}
+use Rattle.history.proofs.Whole.{in-bounds, opens}
 use Rattle.layout.specs.Layout.{Layout}
 use Rattle.model.specs.Reference.{Ref, refIn, word}
 use Rattle.model.specs.Content.{Content, isBox}
@@ -25,6 +25,8 @@ use Rattle.model.specs.View.{Live, View, look, lookLive, lookRef, mem, referenc
 use Rattle.model.specs.Kept.{settled, swept}
 use Rattle.model.specs.Calls.{next}
 use Rattle.model.specs.Slots.{Applied, SlotTable, allocate, amended, filled, live, liveObject, countIn, place, rewritten, slotView, update}
+use Rattle.model.specs.Model.{Model, viewOf}
+use Rattle.model.specs.Opening.{Opening, open-heap, opened}
 use Rattle.model.specs.History.{History, ofSlot, changeOnly}
 
 unfoldable pub under : (ℕ → Content → Option Content) → ℕ → Option Content → Option Content
@@ -129,3 +131,11 @@ swept-stays k f w c d e = go (mem w k) refl
     go : (b : Bool) → mem w k ≡ b → (mem w k ≡ true) × (settled f w c ≡ d)
     go true q = (q, Option·some-injective _ _ (rw q at e))
     go false q = let x : _≡_ {A = Option Content} none (some d) = rw q at e in let z : _≡_ {A = ℕ} 0 1 = cc in absurd (omega arith)
+
+-- a new heap has nothing
+pub nothing-there : (o : Opening) (m : Model) → open-heap o ≡ some m → (w : ℕ) → look (viewOf m) w ≡ none
+nothing-there o m opening w = ap (λ (n : Model). look (viewOf n) w) ((opens o m opening) .is) ∙ (unfold look in at-start (refIn w))
+  where
+    at-start : (r : Option Ref) → lookRef (viewOf (opened o m.layout)) r ≡ none
+    at-start none = unfold lookRef in refl
+    at-start (some r) = unfold lookRef in unfold viewOf in unfold slotView in unfold opened in unfold live in unfold liveObject in unfold lookLive in refl

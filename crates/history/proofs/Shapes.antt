@@ -7,19 +7,19 @@ use mathlib.Core.List.{List}
 use mathlib.Core.Option.{Option, none, some}
 use lib.IntN.{ℤ}
 use Rattle.map_store.specs.Store as Maps
-use Rattle.map_store.specs.Store.{Store, Room}
-use Rattle.model.specs.Content.{Content, case-iterator, case-map, iterator, map-object}
+use Rattle.map_store.specs.Store.{Room}
+use Rattle.model.specs.Content.{Content, Map, case-iterator, case-map, iterator, map-object}
 use Rattle.model.specs.View.{View, look}
 use Rattle.model.specs.Kept.{finalizable, kept, swept}
 use Rattle.model.specs.Rules.{Part, advance, keyTypeOf, on-map, pop-item, push-item, put-box, put-capture, put-cell, put-field, put-item, put-part, put-register, put-state, startCursor}
 use Rattle.model.specs.Calls.{Call, Effect, add, array-capacity, array-length, array-type, capture-count, cell-type, cells-in-use, change, char-word, charge, collect, collection-count, coroutine-finalized, coroutine-sequence, deref-word, effect, entry-capacity, error-kind, error-word, field-count, find, fits-bytes, float-word, frame-count, freed-count, function-number, get, growth-bytes, index-length, insert-entry, integer-word, is-hashed, is-import, iter-cursor, iter-ended, iter-key, iter-key-type, iter-next, iter-source, key-type, kind-of, live-count, map-epoch, new-array, new-box, new-cell, new-coroutine, new-error, new-function, new-integer, new-iter, new-map, new-string, new-struct, next, next-key, next-sequence, note, noted-key, place-count, pop, present-count, push, put, read-box, read-capture, read-cell, read-entry, read-field, read-frame, read-integer, read-item, read-part, read-register, read-state, read-string, read-word, reference-word, register-count, remove, remove-at, rewrite, same, same-words, set-state, set-value, store-box, store-capture, store-cell, store-field, store-item, store-part, store-register, string-length, struct-number, truth-word, used-bytes, value-type, wants-gc}
 
--- what an iterator iterates; what a map holds
+-- what an iterator iterates; a map
 unfoldable pub sourceOf : Content → Option ℕ
 sourceOf c = case-iterator none (λ i. some i.source) c
 
-unfoldable pub storeOf : Content → Option Store
-storeOf c = case-map none (λ m. some m.store) c
+unfoldable pub mapOf : Content → Option Map
+mapOf c = case-map none (λ m. some m) c
 
 -- the rules by which a call changes an object's contents
 pub data Rule (v : View) : Call → (Content → Content) → Type 0 where
@@ -43,14 +43,14 @@ pub data Rule (v : View) : Call → (Content → Content) → Type 0 where
 
 pub data Shape (v : View) : Call → Effect → Type 0 where
   keeps : {k : Call} → Shape v k same
-  adds : {k : Call} {c : Content} {q : Room} → sourceOf c ≡ none → storeOf c ≡ none → Shape v k (add c q)
+  adds : {k : Call} {c : Content} {q : Room} → sourceOf c ≡ none → mapOf c ≡ none → Shape v k (add c q)
   adds-map : {k : Call} {t u : ℕ} {q : Room} → Shape v k (add (map-object record { keyType = t; valueType = u; store = Maps.emptyStore }) q)
   adds-iterator : {r : ℕ} {q : Room} → Shape v (new-iter r) (add (iterator record { source = r; keyType = keyTypeOf (look v r); ended = false; key = none; cursor = startCursor }) q)
   changes : {k : Call} {r : ℕ} {g : Content → Content} {h : Content → Room → Room} → Rule v k g → Shape v k (change r g h)
   sweeps : {k : Call} (roots : List ℕ) → Shape v k (rewrite (swept (kept v roots) (finalizable v roots)))
 
 pub shape : (v : View) (k : Call) → Shape v k (effect v k)
-unfolding effect sourceOf storeOf
+unfolding effect sourceOf mapOf
 shape v (truth-word b) = keeps
 shape v (char-word n) = keeps
 shape v (float-word x) = keeps
