@@ -1,7 +1,6 @@
 -- `words::float_of_bits` meets its contract: the test on the bits picks out the patterns of a NaN, and 0.0 / 0.0 is the NaN. Assumes nothing.
 use mathlib.Core.Path.{_≡_, refl, sym, _∙_, subst⁻¹}
 use mathlib.Core.Bool.{Bool, not}
-use borrow.Author.Needs.{needs}
 use borrow.Author.Tests.{lt-ltb, le-ltb}
 use lib.Dec.{T}
 use lib.Ieee as Ieee
