@@ -11,7 +11,7 @@ use lib.ListN.{length, getD, set, length-set, length-map, List·getD-map, List·
 use lib.Seq.{drop-length, sets, length-sets, getD-set-same, getD-set-other}
 use borrow.Author.Tests.{le-leb}
 use Rattle.layout.specs.Layout.{Layout, Function, noFunction, atLast, parse, fieldsOf}
-use Rattle.layout.specs.Sections.{isGiven, orEmpty, isLayout, layoutOf, operandBytes, consIf, startsFrom, starts, sectionAt, listed, fieldsFrom, Tabled, tableOf, readable, checkedBy, tableAfter, LayoutRead, StructSection, FunctionSection}
+use Rattle.layout.specs.Sections.{isGiven, orEmpty, isLayout, layoutOf, operandBytes, consIf, startsFrom, starts, sectionAt, listed, fieldsFrom, SectionStarts, Tabled, tableOf, readable, checkedBy, tableAfter, LayoutRead, StructSection, FunctionSection}
 use Rattle.layout.specs.declared.Checked.the-variants.{Accepted, Refused}
 use Rattle.layout.proofs.Accepting.{by-test}
 use Rattle.layout.proofs.Parsed.{Sections, parsed, addFields, addLists, functionAt}
@@ -155,17 +155,21 @@ module _ (bs t : List ℕ) where
         record {
           parsed = layout-parsed bs h;
           room = omega (arith, table-len);
-          structs =
-              getD-set-other (set second 512 (length (starts 1 bs))) 513 512 (length (starts 3 bs)) 0 (λ e. omega arith)
-              ∙ getD-set-same second 512 (length (starts 1 bs)) 0 (omega arith);
-          functions = getD-set-same (set second 512 (length (starts 1 bs))) 513 (length (starts 3 bs)) 0 (omega arith);
-          structs-at = λ i l.
-              rest-at i (λ e. omega arith) (λ e. omega arith)
-              ∙ sets-below (starts 3 bs) first 256 i (omega arith)
-              ∙ (rw (zero-add i) at (sets-inside (starts 1 bs) t 0 i (omega arith) l));
-          functions-at = λ i l.
-              rest-at (256 + i) (λ e. omega arith) (λ e. omega arith)
-              ∙ sets-inside (starts 3 bs) first 256 i (omega arith) l;
+          structs = record {
+            count =
+                getD-set-other (set second 512 (length (starts 1 bs))) 513 512 (length (starts 3 bs)) 0 (λ e. omega arith)
+                ∙ getD-set-same second 512 (length (starts 1 bs)) 0 (omega arith);
+            at = λ i l.
+                rest-at (0 + i) (λ e. omega arith) (λ e. omega arith)
+                ∙ sets-below (starts 3 bs) first 256 (0 + i) (omega arith)
+                ∙ sets-inside (starts 1 bs) t 0 i (omega arith) l;
+          };
+          functions = record {
+            count = getD-set-same (set second 512 (length (starts 1 bs))) 513 (length (starts 3 bs)) 0 (omega arith);
+            at = λ i l.
+                rest-at (256 + i) (λ e. omega arith) (λ e. omega arith)
+                ∙ sets-inside (starts 3 bs) first 256 i (omega arith) l;
+          };
         }
 
     pub table-past : (i : ℕ) → 514 ≤ i → getD (tableOf bs t) i 0 ≡ getD t i 0
@@ -215,31 +219,36 @@ getD-any [] n d e h = absurd (omega arith)
 getD-any (x ∷ xs) zero d e h = refl
 getD-any (x ∷ xs) (suc n) d e h = getD-any xs n d e (omega arith)
 
+module _ (bs t : List ℕ) (c base place : ℕ) (s : SectionStarts bs t c base place) (n : ℕ) where
+  known-place : n < getD t place 0 → getD t (base + n) 0 ≡ sectionAt c bs n
+  known-place h =
+      let i : n < length (starts c bs) = omega (arith, s .count) in
+      s .at n i ∙ getD-any (starts c bs) n 0 (length bs) i
+
+  unknown-place : getD t place 0 ≤ n → length bs ≡ sectionAt c bs n
+  unknown-place h = sym (List·getD-eq-default (starts c bs) (length bs) (omega (arith, s .count)))
+
 module _ (bs t : List ℕ) (g : Tabled bs t) (n : ℕ) where
+  struct-from : (p : ℕ) → p ≡ sectionAt 1 bs n → StructSection bs n p
+  struct-from p e = subst (StructSection bs n) (sym e) (struct-section bs (tabled-layout bs t g) n)
+
+  function-from : (p : ℕ) → p ≡ sectionAt 3 bs n → FunctionSection bs n p
+  function-from p e = subst (FunctionSection bs n) (sym e) (function-section bs (tabled-layout bs t g) n)
+
   pub struct-inside : n < getD t 512 0 → n < 256
-  struct-inside h = omega (arith, g .structs, structs-most bs (tabled-layout bs t g))
+  struct-inside h = omega (arith, g .structs .count, structs-most bs (tabled-layout bs t g))
 
   pub struct-known : n < getD t 512 0 → StructSection bs n (getD t n 0)
-  struct-known h =
-      let i : n < length (starts 1 bs) = omega (arith, g .structs) in
-      let e : getD t n 0 ≡ sectionAt 1 bs n = g .structs-at n i ∙ getD-any (starts 1 bs) n 0 (length bs) i in
-      subst (StructSection bs n) (sym e) (struct-section bs (tabled-layout bs t g) n)
+  struct-known h = struct-from (getD t n 0) (rw (zero-add n) at (known-place bs t 1 0 512 (g .structs) n h))
 
   pub struct-unknown : getD t 512 0 ≤ n → StructSection bs n (length bs)
-  struct-unknown h =
-      let e : sectionAt 1 bs n ≡ length bs = List·getD-eq-default (starts 1 bs) (length bs) (omega (arith, g .structs)) in
-      subst (StructSection bs n) e (struct-section bs (tabled-layout bs t g) n)
+  struct-unknown h = struct-from (length bs) (unknown-place bs t 1 0 512 (g .structs) n h)
 
   pub function-inside : n < getD t 513 0 → n < 256
-  function-inside h = omega (arith, g .functions, functions-most bs (tabled-layout bs t g))
+  function-inside h = omega (arith, g .functions .count, functions-most bs (tabled-layout bs t g))
 
   pub function-known : n < getD t 513 0 → FunctionSection bs n (getD t (256 + n) 0)
-  function-known h =
-      let i : n < length (starts 3 bs) = omega (arith, g .functions) in
-      let e : getD t (256 + n) 0 ≡ sectionAt 3 bs n = g .functions-at n i ∙ getD-any (starts 3 bs) n 0 (length bs) i in
-      subst (FunctionSection bs n) (sym e) (function-section bs (tabled-layout bs t g) n)
+  function-known h = function-from (getD t (256 + n) 0) (known-place bs t 3 256 513 (g .functions) n h)
 
   pub function-unknown : getD t 513 0 ≤ n → FunctionSection bs n (length bs)
-  function-unknown h =
-      let e : sectionAt 3 bs n ≡ length bs = List·getD-eq-default (starts 3 bs) (length bs) (omega (arith, g .functions)) in
-      subst (FunctionSection bs n) e (function-section bs (tabled-layout bs t g) n)
+  function-unknown h = function-from (length bs) (unknown-place bs t 3 256 513 (g .functions) n h)

@@ -92,15 +92,18 @@ abbrev pub Continues : ℕ → List ℕ → ℕ → Listed → Type 0
 Continues c bs at (Number n next) = OneMore c bs at n next
 Continues c bs at End = listedFrom c bs at ≡ []
 
--- ---- the table: words 0 to 255 the starts of struct types, 256 to 511 of functions, 512 and 513 how many there are of each
+-- ---- the table of the layout that the bytes give: words 0 to 255 the starts of struct types, 256 to 511 of functions, 512 and 513 how many there are of each
+
+-- from the word `base` on where the sections begin that the command c begins, and at the word `place` how many there are
+pub record SectionStarts (bs t : List ℕ) (c base place : ℕ) : Type 0 where
+  pub count : getD t place 0 ≡ length (starts c bs)
+  pub at : (n : ℕ) → n < length (starts c bs) → getD t (base + n) 0 ≡ getD (starts c bs) n 0
 
 pub record Tabled (bs t : List ℕ) : Type 0 where
   pub parsed : parse bs ≡ some (layoutOf bs)
   pub room : 514 ≤ length t
-  pub structs : getD t 512 0 ≡ length (starts 1 bs)
-  pub functions : getD t 513 0 ≡ length (starts 3 bs)
-  pub structs-at : (n : ℕ) → n < length (starts 1 bs) → getD t n 0 ≡ getD (starts 1 bs) n 0
-  pub functions-at : (n : ℕ) → n < length (starts 3 bs) → getD t (256 + n) 0 ≡ getD (starts 3 bs) n 0
+  pub structs : SectionStarts bs t 1 0 512
+  pub functions : SectionStarts bs t 3 256 513
 
 -- a table with the starts written into it; its other words stay
 unfoldable pub tableOf : List ℕ → List ℕ → List ℕ
