@@ -1,17 +1,16 @@
 -- The lookup with the hit first answers as document 01's order does, and what each answer tells of the word. Assumes nothing.
-use Prim.Native.Nat.{ℕ, _+_, _*_, _/_, _%_, _-_, _≤_, _<_}
+use Prim.Native.Nat.{ℕ, _+_, _*_, _/_, _%_, _≤_, _<_}
 use mathlib.Core.Path.{_≡_, refl, ap, sym, _∙_}
-use mathlib.Core.Bool.{Bool, true, false, cond, not}
+use mathlib.Core.Bool.{Bool, true, false, cond}
 use mathlib.Core.Logic.{_⊎_, inl, inr}
 use mathlib.Core.List.{List}
 use native.Mathlib.Omega.{arith}
 use lib.ListN.{length, getD}
 use lib.Dec.{eqb, ltb, leb}
-use lib.IntN.{ℤ}
 use lib.Ieee as Ieee
-use borrow.Author.Tests.{ltb-true, ltb-false, leb-true, leb-false, eqb-true, eqb-false, ne-eqb, eq-eqb, le-leb, lt-leb, lt-ltb, le-ltb}
-use Rattle.words.specs.Word.{byKind, decodeWord, lowRaw, signed49, floatOf, intBase, floatBase, refBase, refSlot, refTag}
-use Rattle.words.specs.WordLaws.{by-test, decode-int-range, decode-float-range, decode-ref-range, decode-low-range}
+use borrow.Author.Tests.{ltb-true, eqb-true, eqb-false, ne-eqb, eq-eqb, le-leb, lt-leb, lt-ltb}
+use Rattle.words.specs.Word.{byKind, decodeWord, lowRaw, intBase, refSlot, refTag}
+use Rattle.words.specs.WordLaws.{decode-int-range, decode-float-range, decode-ref-range, decode-low-range}
 use Rattle.words.specs.declared.Raw.the-variants as R
 use Rattle.slots.specs.declared.Found.{Found}
 use Rattle.slots.specs.declared.Found.the-variants.{At, Nothing, Wrong}
