@@ -1,7 +1,7 @@
 // The account (document 01, "Account"): a small record handed in and handed back.
 ghost use mathlib.Core.Path.{_≡_};
 ghost use Prim.Native.Nat.{_+_, _*_};
-ghost use Rattle.account.specs.Account.{saturated, newAccount, fits, chargeOf, wantsCollection, afterSweep};
+ghost use Rattle.account.specs.Account.{saturated, newAccount, fits, fitsOf, chargeOf, wantsCollection, afterSweep};
 
 pub struct Account {
     pub used: u64,
@@ -14,6 +14,12 @@ pub struct Account {
 pub enum Charged {
     Next(Account),
     Refused,
+}
+
+// Whether a charge would be accepted, with the account afterwards: asking changes nothing.
+pub struct Answered {
+    pub next: Account,
+    pub fits: bool,
 }
 
 const MOST: u64 = 0xFFFF_FFFF_FFFF_FFFF;
@@ -47,10 +53,19 @@ impl Account {
         }
     }
 
-    pub fn fits(self, bytes: u64) -> bool
+    pub fn allows(self, bytes: u64) -> bool
         ensures { λ r. ⌜ r ≡ fits self bytes ⌝ }
     {
         saturating_add(self.used, bytes) <= self.limit
+    }
+
+    pub fn fits(self, bytes: u64) -> Answered
+        ensures { λ r. ⌜ r ≡ fitsOf self bytes ⌝ }
+    {
+        Answered {
+            next: self,
+            fits: self.allows(bytes),
+        }
     }
 
     pub fn charge(self, bytes: u64) -> Charged

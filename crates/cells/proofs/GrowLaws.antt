@@ -1,7 +1,7 @@
 -- A region grows: where it lies at the top, at a new place, or by moving up the cells above it. Assumes nothing.
-use Prim.Native.Nat.{ℕ, zero, suc, _+_, _*_, _-_, _≤_, _<_}
+use Prim.Native.Nat.{ℕ, _+_, _*_, _-_, _≤_, _<_}
 use mathlib.Core.Path.{_≡_, refl, ap, sym, _∙_}
-use mathlib.Core.Logic.{_⊎_, inl, inr}
+use mathlib.Core.Logic.{inl, inr}
 use mathlib.Core.List.{List}
 use native.Mathlib.Omega.{arith}
 use lib.ListN.{length, getD, set, take, drop, length-set}
@@ -12,7 +12,7 @@ use Rattle.slots.proofs.Cases.{by-cases, same-or-not, lt-or-le}
 use Rattle.slots.proofs.HeaderLaws.{headerAt-same, headerAt-other, length-setHeader}
 use Rattle.cells.specs.declared.Top.{Top}
 use Rattle.cells.specs.Moves.{Moved}
-use Rattle.cells.specs.Regions.{Raw, rawOf, regionOf, rawAt, sizesOf, Laid, Kept, Growing, Grown, Shifted, Shifting, Compacted}
+use Rattle.cells.specs.Regions.{Raw, rawOf, regionOf, rawAt, sizesOf, Laid, Growing, Grown, Shifted, Shifting, Compacted}
 use Rattle.cells.proofs.SumLaws.{sum-put}
 use Rattle.cells.proofs.RawLaws.{part-ext, raw-kept, raw-other, raw-above, raw-cells-kept, laid-cells}
 use Rattle.cells.proofs.LaidLaws.{laid-put}

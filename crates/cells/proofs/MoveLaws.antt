@@ -1,5 +1,5 @@
 -- Places of a list stored one after another. Assumes nothing.
-use Prim.Native.Nat.{ℕ, zero, suc, _+_, _*_, _-_, _≤_, _<_}
+use Prim.Native.Nat.{ℕ, _+_, _-_, _≤_, _<_}
 use mathlib.Core.Path.{_≡_, refl, ap, sym, _∙_}
 use mathlib.Core.Logic.{_⊎_, inl, inr}
 use mathlib.Core.List.{List}

@@ -1,5 +1,5 @@
 -- Compaction's step keeps its invariant and every slot but for its region's place. Assumes nothing.
-use Prim.Native.Nat.{ℕ, zero, suc, _+_, _*_, _-_, _≤_, _<_}
+use Prim.Native.Nat.{ℕ, zero, _+_, _≤_, _<_}
 use mathlib.Core.Path.{_≡_, refl, ap, sym, _∙_}
 use mathlib.Core.Bool.{Bool, true, false, cond}
 use mathlib.Core.Logic.{_⊎_, inl, inr}
@@ -15,7 +15,7 @@ use Rattle.slots.proofs.Cases.{by-cases, same-or-not}
 use Rattle.slots.proofs.HeaderLaws.{headerAt-same, headerAt-other, length-setHeader}
 use Rattle.cells.specs.declared.Top.{Top}
 use Rattle.cells.specs.Moves.{Moved}
-use Rattle.cells.specs.Regions.{Raw, rawOf, regionOf, rawAt, sumTo, sizesOf, packedSize, packedOne, Sited, Packing, Packed, Kept, Laid, Compacted, Reserved}
+use Rattle.cells.specs.Regions.{Raw, rawOf, rawAt, sumTo, sizesOf, packedSize, packedOne, Sited, Packing, Packed, Kept, Laid, Compacted}
 use Rattle.cells.proofs.SumLaws.{sum-ext, sum-zero, sum-le, sum-put, sizes-ext}
 use Rattle.cells.proofs.RawLaws.{part-ext}
 

@@ -1,6 +1,6 @@
 -- Slots with their cells, one store at a time. Assumes nothing.
-use Prim.Native.Nat.{ℕ, zero, suc, _+_, _*_, _-_, _≤_, _<_}
-use mathlib.Core.Path.{_≡_, refl, ap, sym, _∙_}
+use Prim.Native.Nat.{ℕ, _+_, _*_, _≤_, _<_}
+use mathlib.Core.Path.{_≡_, ap, sym, _∙_}
 use mathlib.Core.Logic.{_⊎_, inl, inr}
 use mathlib.Core.List.{List}
 use native.Mathlib.Omega.{arith}
@@ -10,7 +10,7 @@ use Rattle.slots.specs.Header.{headerAt, setHeader, withValue, withMode, withLe
 use Rattle.slots.specs.declared.Header.{Header}
 use Rattle.slots.proofs.Cases.{by-cases, same-or-not, lt-or-le}
 use Rattle.slots.proofs.HeaderLaws.{headerAt-same, headerAt-other, store-other, store-value, store-mode, store-len}
-use Rattle.cells.specs.Regions.{Raw, rawOf, regionOf, rawAt, Laid}
+use Rattle.cells.specs.Regions.{rawOf, regionOf, rawAt, Laid}
 
 -- ---- regions
 

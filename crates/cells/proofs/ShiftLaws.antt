@@ -1,5 +1,5 @@
 -- Regions listed from an entry on start later. Assumes nothing.
-use Prim.Native.Nat.{ℕ, zero, suc, _+_, _*_, _-_, _≤_, _<_}
+use Prim.Native.Nat.{ℕ, _+_, _≤_, _<_}
 use mathlib.Core.Path.{_≡_, refl, ap, sym, _∙_}
 use mathlib.Core.Logic.{_⊎_, inl, inr}
 use mathlib.Core.List.{List}
@@ -9,7 +9,7 @@ use Rattle.slots.specs.Header.{headerAt, setHeader, withRegion}
 use Rattle.slots.specs.declared.Header.{Header}
 use Rattle.slots.proofs.Cases.{by-cases, same-or-not, lt-or-le}
 use Rattle.slots.proofs.HeaderLaws.{headerAt-same, headerAt-other, length-setHeader}
-use Rattle.cells.specs.Regions.{Laid, Shifted, Shifting}
+use Rattle.cells.specs.Regions.{Shifted, Shifting}
 use Rattle.cells.proofs.PackLaws.{owner, unlisted-outside, unlisted-empty, unlisted-else}
 
 -- ---- one entry

@@ -36,8 +36,8 @@ use Rattle.model.specs.View.{View, derefAs, look, unboxed}
 use Rattle.model.specs.View as View
 use Rattle.model.specs.Replies.{Reply, nothing, number, truth}
 use Rattle.model.specs.Model.{viewOf}
-use Rattle.model.specs.Refusals.{added, slotless, target, unless, wants}
-use Rattle.model.specs.Terms.{a-box, charging, kindOf, of, row-of, terms}
+use Rattle.model.specs.Refusals.{added, slotless, target, unless, kindTest}
+use Rattle.model.specs.Terms.{a-box, charging, kindOf, readOr, uncharged, terms}
 use Rattle.model.specs.Step.{accept, accountAfter, answerOf, collectionsAfter, finish, judged, paid, step}
 use Rattle.model.specs.Slots.{apply}
 use Rattle.heap.specs.declared.Heap.{Heap}
@@ -59,8 +59,8 @@ use Rattle.heap.proofs.ReadLaws.{reads-content}
 -- ---- a reading of the whole heap, or of a word
 
 -- it is never refused
-pub reads-so : {t : State} (k : Call) {a : Reply} → Good t → ((l : Layout) → effect (viewOf (modelOf l t)) k ≡ same) → ((l : Layout) → terms (modelOf l t) k ≡ row-of [] a) → Reads k t (answered a)
-unfolding row-of
+pub reads-so : {t : State} (k : Call) {a : Reply} → Good t → ((l : Layout) → effect (viewOf (modelOf l t)) k ≡ same) → ((l : Layout) → terms (modelOf l t) k ≡ uncharged [] a) → Reads k t (answered a)
+unfolding uncharged
 reads-so k g e h l = does-answered l g k (rw (h l)) (e l) (rw (h l)) (rw (h l) first-none) (rw (h l))
 
 pub collections-read : {t : State} → Good t → Reads Calls.collection-count t (answered (number (t .heap .collections)))
@@ -77,36 +77,36 @@ used-read g = reads-so Calls.used-bytes g (λ l. refl) (λ l. refl)
 
 pub present-read : {t : State} → Good t → Reads Calls.present-count t (answered (number (t .heap .present)))
 unfolding terms effect
-present-read {t} g = reads-so Calls.present-count g (λ l. refl) (λ l. ap (λ (n : ℕ). row-of [] (number n)) (counts-present l t g))
+present-read {t} g = reads-so Calls.present-count g (λ l. refl) (λ l. ap (λ (n : ℕ). uncharged [] (number n)) (counts-present l t g))
 
 pub cells-read : {t : State} → Good t → Reads Calls.cells-in-use t (answered (number (t .heap .taken)))
 unfolding terms effect
-cells-read {t} g = reads-so Calls.cells-in-use g (λ l. refl) (λ l. ap (λ (n : ℕ). row-of [] (number n)) (cells-used l t g))
+cells-read {t} g = reads-so Calls.cells-in-use g (λ l. refl) (λ l. ap (λ (n : ℕ). uncharged [] (number n)) (cells-used l t g))
 
 pub fits-read : {t : State} {bytes : ℕ} {r : Bool} → Good t → r ≡ fits (t .heap .account) bytes → Reads (Calls.fits-bytes bytes) t (answered (truth r))
 unfolding terms effect modelOf
-fits-read {bytes = bytes} g e = reads-so (Calls.fits-bytes bytes) g (λ l. refl) (λ l. ap (λ (b : Bool). row-of [] (truth b)) (sym e))
+fits-read {bytes = bytes} g e = reads-so (Calls.fits-bytes bytes) g (λ l. refl) (λ l. ap (λ (b : Bool). uncharged [] (truth b)) (sym e))
 
 pub wants-read : {t : State} {extra : ℕ} {r : Bool} → Good t → r ≡ wantsCollection (t .heap .account) extra → Reads (Calls.wants-gc extra) t (answered (truth r))
 unfolding terms effect modelOf
-wants-read {extra = extra} g e = reads-so (Calls.wants-gc extra) g (λ l. refl) (λ l. ap (λ (b : Bool). row-of [] (truth b)) (sym e))
+wants-read {extra = extra} g e = reads-so (Calls.wants-gc extra) g (λ l. refl) (λ l. ap (λ (b : Bool). uncharged [] (truth b)) (sym e))
 
 -- ---- `get`
 
-row-by : (l : Layout) {t : State} {w : ℕ} (f : Found) → Good t → Finds (t .slots) (t .heap .fresh) w f → of 0 row (look (viewOf (modelOf l t)) w) ≡ rowBy (t .slots) f
-unfolding rowBy of rawAt
+row-by : (l : Layout) {t : State} {w : ℕ} (f : Found) → Good t → Finds (t .slots) (t .heap .fresh) w f → readOr 0 row (look (viewOf (modelOf l t)) w) ≡ rowBy (t .slots) f
+unfolding rowBy readOr rawAt
 row-by l {t} {w} (F.At i) g d =
     let h = found-reached g d refl in
     reads-content l 0 row h ∙ row-of-content (rawOf t i) (moreOf t i) (omega (arith, h .present)) (g .each i (h .within) .kind)
 row-by l F.Nothing g d = rw (nothing-look l g d refl)
 row-by l F.Wrong g d = rw (wrong-look l g d refl)
 
-pub row-read : (l : Layout) {t : State} {w r : ℕ} → Good t → Ranks (t .slots) (t .heap .fresh) w r → of 0 row (look (viewOf (modelOf l t)) w) ≡ r
+pub row-read : (l : Layout) {t : State} {w r : ℕ} → Good t → Ranks (t .slots) (t .heap .fresh) w r → readOr 0 row (look (viewOf (modelOf l t)) w) ≡ r
 row-read l {t} {w} g d = row-by l (hitFirst (t .slots) (t .heap .fresh) w) g record { is = refl } ∙ sym (d .is)
 
 pub get-read : {t : State} {w r : ℕ} → Good t → Ranks (t .slots) (t .heap .fresh) w r → Reads (Calls.get w) t (answered (number r))
 unfolding terms effect
-get-read {w = w} g d = reads-so (Calls.get w) g (λ l. refl) (λ l. ap (λ (n : ℕ). row-of [] (number n)) (row-read l g d))
+get-read {w = w} g d = reads-so (Calls.get w) g (λ l. refl) (λ l. ap (λ (n : ℕ). uncharged [] (number n)) (row-read l g d))
 
 row-max-by : {t : State} {w : ℕ} (f : Found) → Good t → Finds (t .slots) (t .heap .fresh) w f → rowBy (t .slots) f ≤ 11
 unfolding rowBy rawAt
@@ -122,7 +122,7 @@ row-max {t} {w} g d = rw (d .is) (row-max-by (hitFirst (t .slots) (t .heap .fres
 module _ {t : State} {w : ℕ} (g : Good t) where
   kind-read : {n : ℕ} → ((l : Layout) → kindOf (viewOf (modelOf l t)) w ≡ n) → Reads (Calls.kind-of w) t (answered (number n))
   unfolding terms effect
-  kind-read h = reads-so (Calls.kind-of w) g (λ l. refl) (λ l. ap (λ (n : ℕ). row-of [] (number n)) (h l))
+  kind-read h = reads-so (Calls.kind-of w) g (λ l. refl) (λ l. ap (λ (n : ℕ). uncharged [] (number n)) (h l))
 
   pub kind-nil : R.Nil ≡ decodeWord w → Reads (Calls.kind-of w) t (answered (number 0))
   unfolding kindOf
@@ -175,7 +175,7 @@ plain-word v w false e h = rw (not-ref w e)
 
 pub deref-plain : {t : State} {w : ℕ} {b : Bool} → Good t → b ≡ isBoxWord w → b ≡ false → Reads (Calls.deref-word w) t (answered (number w))
 unfolding terms effect
-deref-plain {w = w} g e f = reads-so (Calls.deref-word w) g (λ l. refl) (λ l. ap (λ (n : ℕ). row-of [] (number n)) (plain-word (viewOf (modelOf l _)) w (isRefWord w) refl (sym e ∙ f)))
+deref-plain {w = w} g e f = reads-so (Calls.deref-word w) g (λ l. refl) (λ l. ap (λ (n : ℕ). uncharged [] (number n)) (plain-word (viewOf (modelOf l _)) w (isRefWord w) refl (sym e ∙ f)))
 
 boxed-word : (v : View) (w : ℕ) → isBoxWord w ≡ true → (decodeWord w ≡ R.Ref (refSlot w) (refTag w)) × (View.deref v w ≡ unboxed (look v w))
 unfolding View.deref derefAs refIn refOf isBoxWord
@@ -184,8 +184,8 @@ boxed-word v w h =
     (r, rw (r, and-right (isRefWord w) (leb 0x8000 (refTag w)) h))
 
 -- what is no box gives nil
-unboxed-else : (o : Option Content) → wants a-box o ≢ 0 → unboxed o ≡ 0
-unfolding wants unless unboxed
+unboxed-else : (o : Option Content) → kindTest a-box o ≢ 0 → unboxed o ≡ 0
+unfolding kindTest unless unboxed
 unboxed-else none h = refl
 unboxed-else (some (string x)) h = refl
 unboxed-else (some (integer x)) h = refl
@@ -203,7 +203,7 @@ module _ {t : State} {w : ℕ} {b : Bool} {r : Located} (g : Good t) (e : b ≡ 
   boxed-read : {n : ℕ} → ((l : Layout) → unboxed (look (viewOf (modelOf l t)) w) ≡ n) → Reads (Calls.deref-word w) t (answered (number n))
   unfolding terms effect
   boxed-read h =
-      reads-so (Calls.deref-word w) g (λ l. refl) (λ l. ap (λ (n : ℕ). row-of [] (number n)) (boxed-word (viewOf (modelOf l t)) w (sym e ∙ f) .1 ∙ h l))
+      reads-so (Calls.deref-word w) g (λ l. refl) (λ l. ap (λ (n : ℕ). uncharged [] (number n)) (boxed-word (viewOf (modelOf l t)) w (sym e ∙ f) .1 ∙ h l))
 
   pub deref-refused : {q : Refusal} → r ≡ L.Refused q → Reads (Calls.deref-word w) t (answered (number 0))
   unfolding target

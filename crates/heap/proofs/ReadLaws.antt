@@ -17,7 +17,7 @@ use Rattle.model.specs.View.{look}
 use Rattle.model.specs.Replies.{Lent, Reply, nothing, reply}
 use Rattle.model.specs.Model.{viewOf}
 use Rattle.model.specs.Refusals.{first, inside, target}
-use Rattle.model.specs.Terms.{bytes, captures, fields, frames, items, keyTraced, mapStore, of, registers, terms}
+use Rattle.model.specs.Terms.{bytes, captures, fields, frames, items, keyTraced, mapStore, readOr, registers, terms}
 use Rattle.heap.specs.declared.Located.{Located}
 use Rattle.heap.specs.declared.Located.the-variants as L
 use Rattle.heap.specs.declared.Refusal.{Refusal}
@@ -62,41 +62,41 @@ module _ (l : Layout) {t : State} (g : Good t) (k : Call) where
 
 -- ---- what the model reads of the object
 
-pub reads-content : (l : Layout) {t : State} {w i : ℕ} {A : Type 0} (d : A) (f : Content → A) → Reached t w i → of d f (look (viewOf (modelOf l t)) w) ≡ f (contentOf (rawOf t i) (moreOf t i))
-unfolding of
+pub reads-content : (l : Layout) {t : State} {w i : ℕ} {A : Type 0} (d : A) (f : Content → A) → Reached t w i → readOr d f (look (viewOf (modelOf l t)) w) ≡ f (contentOf (rawOf t i) (moreOf t i))
+unfolding readOr
 reads-content l d f h = rw (reached-look h l)
 
-pub reads-string : (l : Layout) {t : State} {w i : ℕ} {A : Type 0} (d : A) (f : List ℕ → A) → Target t w i 1 → of d (case-string d f) (look (viewOf (modelOf l t)) w) ≡ f (stringBytes (rawOf t i .cells) (rawOf t i .len))
+pub reads-string : (l : Layout) {t : State} {w i : ℕ} {A : Type 0} (d : A) (f : List ℕ → A) → Target t w i 1 → readOr d (case-string d f) (look (viewOf (modelOf l t)) w) ≡ f (stringBytes (rawOf t i .cells) (rawOf t i .len))
 reads-string l {t} {i = i} d f o = reads-content l d (case-string d f) (o .reached) ∙ ap (case-string d f) (content-string (rawOf t i) (moreOf t i) (o .kind-is))
 
-pub reads-integer : (l : Layout) {t : State} {w i : ℕ} {A : Type 0} (d : A) (f : ℤ → A) → Target t w i 2 → of d (case-integer d f) (look (viewOf (modelOf l t)) w) ≡ f (signed64 (rawOf t i .value))
+pub reads-integer : (l : Layout) {t : State} {w i : ℕ} {A : Type 0} (d : A) (f : ℤ → A) → Target t w i 2 → readOr d (case-integer d f) (look (viewOf (modelOf l t)) w) ≡ f (signed64 (rawOf t i .value))
 reads-integer l {t} {i = i} d f o = reads-content l d (case-integer d f) (o .reached) ∙ ap (case-integer d f) (content-integer (rawOf t i) (moreOf t i) (o .kind-is))
 
-pub reads-cell : (l : Layout) {t : State} {w i : ℕ} {A : Type 0} (d : A) (f : Cell → A) → Target t w i 3 → of d (case-cell d f) (look (viewOf (modelOf l t)) w) ≡ f record { type = rawOf t i .mode; word = rawOf t i .value }
+pub reads-cell : (l : Layout) {t : State} {w i : ℕ} {A : Type 0} (d : A) (f : Cell → A) → Target t w i 3 → readOr d (case-cell d f) (look (viewOf (modelOf l t)) w) ≡ f record { type = rawOf t i .mode; word = rawOf t i .value }
 reads-cell l {t} {i = i} d f o = reads-content l d (case-cell d f) (o .reached) ∙ ap (case-cell d f) (content-cell (rawOf t i) (moreOf t i) (o .kind-is))
 
-pub reads-error : (l : Layout) {t : State} {w i : ℕ} {A : Type 0} (d : A) (f : Error → A) → Target t w i 4 → of d (case-error d f) (look (viewOf (modelOf l t)) w) ≡ f record { kind = rawOf t i .mode; word = rawOf t i .value }
+pub reads-error : (l : Layout) {t : State} {w i : ℕ} {A : Type 0} (d : A) (f : Error → A) → Target t w i 4 → readOr d (case-error d f) (look (viewOf (modelOf l t)) w) ≡ f record { kind = rawOf t i .mode; word = rawOf t i .value }
 reads-error l {t} {i = i} d f o = reads-content l d (case-error d f) (o .reached) ∙ ap (case-error d f) (content-error (rawOf t i) (moreOf t i) (o .kind-is))
 
-pub reads-box : (l : Layout) {t : State} {w i : ℕ} {A : Type 0} (d : A) (f : ℕ → A) → Target t w i 5 → of d (case-box d f) (look (viewOf (modelOf l t)) w) ≡ f (rawOf t i .value)
+pub reads-box : (l : Layout) {t : State} {w i : ℕ} {A : Type 0} (d : A) (f : ℕ → A) → Target t w i 5 → readOr d (case-box d f) (look (viewOf (modelOf l t)) w) ≡ f (rawOf t i .value)
 reads-box l {t} {i = i} d f o = reads-content l d (case-box d f) (o .reached) ∙ ap (case-box d f) (content-box (rawOf t i) (moreOf t i) (o .kind-is))
 
-pub reads-array : (l : Layout) {t : State} {w i : ℕ} {A : Type 0} (d : A) (f : Array → A) → Target t w i 6 → of d (case-array d f) (look (viewOf (modelOf l t)) w) ≡ f record { type = rawOf t i .mode; items = take (rawOf t i .len) (rawOf t i .cells) }
+pub reads-array : (l : Layout) {t : State} {w i : ℕ} {A : Type 0} (d : A) (f : Array → A) → Target t w i 6 → readOr d (case-array d f) (look (viewOf (modelOf l t)) w) ≡ f record { type = rawOf t i .mode; items = take (rawOf t i .len) (rawOf t i .cells) }
 reads-array l {t} {i = i} d f o = reads-content l d (case-array d f) (o .reached) ∙ ap (case-array d f) (content-array (rawOf t i) (moreOf t i) (o .kind-is))
 
-pub reads-map : (l : Layout) {t : State} {w i : ℕ} {A : Type 0} (d : A) (f : Map → A) → Target t w i 7 → of d (case-map d f) (look (viewOf (modelOf l t)) w) ≡ f record { keyType = moreOf t i .a; valueType = moreOf t i .b; store = storeOf (mapOf (rawOf t i) (moreOf t i)) (rawOf t i .cells) }
+pub reads-map : (l : Layout) {t : State} {w i : ℕ} {A : Type 0} (d : A) (f : Map → A) → Target t w i 7 → readOr d (case-map d f) (look (viewOf (modelOf l t)) w) ≡ f record { keyType = moreOf t i .a; valueType = moreOf t i .b; store = storeOf (mapOf (rawOf t i) (moreOf t i)) (rawOf t i .cells) }
 reads-map l {t} {i = i} d f o = reads-content l d (case-map d f) (o .reached) ∙ ap (case-map d f) (content-map (rawOf t i) (moreOf t i) (o .kind-is))
 
-pub reads-struct : (l : Layout) {t : State} {w i : ℕ} {A : Type 0} (d : A) (f : Struct → A) → Target t w i 8 → of d (case-struct d f) (look (viewOf (modelOf l t)) w) ≡ f record { number = rawOf t i .value; fields = take (rawOf t i .len) (rawOf t i .cells) }
+pub reads-struct : (l : Layout) {t : State} {w i : ℕ} {A : Type 0} (d : A) (f : Struct → A) → Target t w i 8 → readOr d (case-struct d f) (look (viewOf (modelOf l t)) w) ≡ f record { number = rawOf t i .value; fields = take (rawOf t i .len) (rawOf t i .cells) }
 reads-struct l {t} {i = i} d f o = reads-content l d (case-struct d f) (o .reached) ∙ ap (case-struct d f) (content-struct (rawOf t i) (moreOf t i) (o .kind-is))
 
-pub reads-function : (l : Layout) {t : State} {w i : ℕ} {A : Type 0} (d : A) (f : Closure → A) → Target t w i 9 → of d (case-closure d f) (look (viewOf (modelOf l t)) w) ≡ f record { isImport = yes (rawOf t i .mode); number = rawOf t i .value; captures = take (rawOf t i .len) (rawOf t i .cells) }
+pub reads-function : (l : Layout) {t : State} {w i : ℕ} {A : Type 0} (d : A) (f : Closure → A) → Target t w i 9 → readOr d (case-closure d f) (look (viewOf (modelOf l t)) w) ≡ f record { isImport = yes (rawOf t i .mode); number = rawOf t i .value; captures = take (rawOf t i .len) (rawOf t i .cells) }
 reads-function l {t} {i = i} d f o = reads-content l d (case-closure d f) (o .reached) ∙ ap (case-closure d f) (content-function (rawOf t i) (moreOf t i) (o .kind-is))
 
-pub reads-iterator : (l : Layout) {t : State} {w i : ℕ} {A : Type 0} (d : A) (f : Iterator → A) → Target t w i 10 → of d (case-iterator d f) (look (viewOf (modelOf l t)) w) ≡ f record { source = rawOf t i .value; keyType = rawOf t i .mode; ended = yes (moreOf t i .a); key = perhaps (moreOf t i .b) (moreOf t i .c); cursor = cursorOf (moreOf t i) }
+pub reads-iterator : (l : Layout) {t : State} {w i : ℕ} {A : Type 0} (d : A) (f : Iterator → A) → Target t w i 10 → readOr d (case-iterator d f) (look (viewOf (modelOf l t)) w) ≡ f record { source = rawOf t i .value; keyType = rawOf t i .mode; ended = yes (moreOf t i .a); key = perhaps (moreOf t i .b) (moreOf t i .c); cursor = cursorOf (moreOf t i) }
 reads-iterator l {t} {i = i} d f o = reads-content l d (case-iterator d f) (o .reached) ∙ ap (case-iterator d f) (content-iterator (rawOf t i) (moreOf t i) (o .kind-is))
 
-pub reads-coroutine : (l : Layout) {t : State} {w i : ℕ} {A : Type 0} (d : A) (f : Coroutine → A) → Target t w i 11 → of d (case-coroutine d f) (look (viewOf (modelOf l t)) w) ≡ f record {
+pub reads-coroutine : (l : Layout) {t : State} {w i : ℕ} {A : Type 0} (d : A) (f : Coroutine → A) → Target t w i 11 → readOr d (case-coroutine d f) (look (viewOf (modelOf l t)) w) ≡ f record {
   state = rawOf t i .mode;
   finalized = yes (moreOf t i .a);
   sequence = rawOf t i .value;

@@ -274,7 +274,7 @@ pub fn fits(
     ensures { λ r. ⌜ Reads (Calls.fits-bytes bytes) (state heap (now (slots .entry)) (now (scalars .entry)) (now (list .entry)) (now (directory .entry)) (now (cells .entry))) (answered (truth r)) ⌝ }
 {
     let account = heap.account;
-    account.fits(bytes)
+    account.allows(bytes)
 }
 
 // Whether a collection is due before `extra` bytes more.

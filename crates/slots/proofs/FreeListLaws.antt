@@ -1,5 +1,5 @@
 -- The free list's top, and the slot that a new object takes. Assumes nothing.
-use Prim.Native.Nat.{ℕ, zero, suc, _+_, _*_, _-_, _≤_, _<_}
+use Prim.Native.Nat.{ℕ, zero, suc, _+_, _-_, _≤_, _<_}
 use mathlib.Core.Path.{_≡_, refl, ap, sym, _∙_}
 use mathlib.Core.List.{List, [], _∷_}
 use native.Mathlib.Omega.{arith}
@@ -68,20 +68,25 @@ taken-max {free = free} max k l f =
 
 -- ---- the list after a store
 
-pub listed-ext : {s list : List ℕ} {fresh free : ℕ} (s′ : List ℕ) (fresh′ : ℕ) → Listed s list fresh free → fresh ≤ fresh′ → ((k : ℕ) → k < free → headerAt s′ (getD list k 0) ≡ headerAt s (getD list k 0)) → Listed s′ list fresh′ free
+-- the listed slots keep their kinds and halves
+pub listed-ext : {s list : List ℕ} {fresh free : ℕ} (s′ : List ℕ) (fresh′ : ℕ) → Listed s list fresh free → fresh ≤ fresh′
+    → ((k : ℕ) → k < free → (headerAt s′ (getD list k 0) .kind ≡ headerAt s (getD list k 0) .kind) × (headerAt s′ (getD list k 0) .half ≡ headerAt s (getD list k 0) .half)) → Listed s′ list fresh′ free
 listed-ext s′ fresh′ g l h =
     record {
       inside = λ k lk. omega (arith, g .inside k lk);
-      empty = λ k lk. rw (h k lk) (g .empty k lk);
-      low = λ k lk. rw (h k lk) (g .low k lk);
-      high = λ k lk. rw (h k lk) (g .high k lk);
+      empty = λ k lk. h k lk .0 ∙ g .empty k lk;
+      low = λ k lk. omega (arith, g .low k lk, h k lk .1);
+      high = λ k lk. omega (arith, g .high k lk, h k lk .1);
       once = g .once;
     }
+
+same-words : (h h′ : Header) → h′ ≡ h → (h′ .kind ≡ h .kind) × (h′ .half ≡ h .half)
+same-words h h′ e = (ap (λ (q : Header). q .kind) e, ap (λ (q : Header). q .half) e)
 
 -- slot i, which has an object, gets another header
 pub listed-kept : {s list : List ℕ} {fresh free : ℕ} (s′ : List ℕ) (i : ℕ) → Listed s list fresh free → (headerAt s i .kind ≡ 0 → ⊥) → ((j : ℕ) → (j ≡ i → ⊥) → headerAt s′ j ≡ headerAt s j) → Listed s′ list fresh free
 listed-kept {s} {list} {fresh} s′ i g p others =
-    listed-ext s′ fresh g (omega arith) (λ k lk. others (getD list k 0) (λ e. p (rw (← e) (g .empty k lk))))
+    listed-ext s′ fresh g (omega arith) (λ k lk. same-words _ _ (others (getD list k 0) (λ e. p (rw (← e) (g .empty k lk)))))
 
 -- the slot taken gets its object's header
 pub listed-taken : {s list : List ℕ} {fresh free flag : ℕ} {t : Taken} (s′ : List ℕ) → Listed s list fresh free → Takes s list fresh free flag t → ((j : ℕ) → (j ≡ t .slot → ⊥) → headerAt s′ j ≡ headerAt s j) → Listed s′ list (t .fresh) (t .free)
@@ -110,7 +115,7 @@ listed-taken {s} {list} {fresh} {free} {flag} {t} s′ g k others =
       once = λ a b lab lb. g .once a b lab (omega arith);
     } in
     rw (ef, en)
-    (listed-ext s′ fresh less (omega arith) (λ a la. others (getD list a 0) (λ e. g .once a (free - 1) la (omega arith) (e ∙ es)))))
+    (listed-ext s′ fresh less (omega arith) (λ a la. same-words _ _ (others (getD list a 0) (λ e. g .once a (free - 1) la (omega arith) (e ∙ es))))))
 
 -- slot i loses its object, and is listed on top
 pub listed-push : {s list : List ℕ} {fresh free : ℕ} (s′ : List ℕ) (i : ℕ) (h : Header) → Listed s list fresh free → i < fresh → free < length list → (headerAt s i .kind ≡ 0 → ⊥)

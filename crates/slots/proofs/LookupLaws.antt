@@ -1,23 +1,24 @@
 -- The lookup with the hit first answers as document 01's order does, and what each answer tells of the word. Assumes nothing.
-use Prim.Native.Nat.{ℕ, _+_, _*_, _/_, _%_, _-_, _≤_, _<_}
+use Prim.Native.Nat.{ℕ, _+_, _*_, _/_, _%_, _≤_, _<_}
 use mathlib.Core.Path.{_≡_, refl, ap, sym, _∙_}
-use mathlib.Core.Bool.{Bool, true, false, cond, not}
+use mathlib.Core.Bool.{Bool, true, false, cond}
 use mathlib.Core.Logic.{_⊎_, inl, inr}
 use mathlib.Core.List.{List}
 use native.Mathlib.Omega.{arith}
-use lib.ListN.{getD}
+use lib.ListN.{length, getD}
 use lib.Dec.{eqb, ltb, leb}
-use lib.IntN.{ℤ}
 use lib.Ieee as Ieee
-use borrow.Author.Tests.{ltb-true, ltb-false, leb-true, leb-false, eqb-true, eqb-false, ne-eqb, eq-eqb, le-leb, lt-leb, lt-ltb, le-ltb}
-use Rattle.words.specs.Word.{byKind, decodeWord, lowRaw, signed49, floatOf, intBase, floatBase, refBase, refSlot, refTag}
-use Rattle.words.specs.WordLaws.{by-test, decode-int-range, decode-float-range, decode-ref-range, decode-low-range}
+use borrow.Author.Tests.{ltb-true, eqb-true, eqb-false, ne-eqb, eq-eqb, le-leb, lt-leb, lt-ltb}
+use Rattle.words.specs.Word.{byKind, decodeWord, lowRaw, intBase, refSlot, refTag}
+use Rattle.words.specs.WordLaws.{decode-int-range, decode-float-range, decode-ref-range, decode-low-range}
 use Rattle.words.specs.declared.Raw.the-variants as R
 use Rattle.slots.specs.declared.Found.{Found}
 use Rattle.slots.specs.declared.Found.the-variants.{At, Nothing, Wrong}
-use Rattle.slots.specs.Header.{headerAt}
+use Rattle.slots.specs.Header.{headerAt, setHeader}
+use Rattle.slots.specs.declared.Header.{Header}
 use Rattle.slots.specs.Lookup.{pick, missed, hitFirst, reachedIn, foundBy, Finds, Halves}
-use Rattle.slots.proofs.Cases.{by-cases, lt-or-le}
+use Rattle.slots.proofs.Cases.{by-cases, lt-or-le, same-or-not}
+use Rattle.slots.proofs.HeaderLaws.{headerAt-same, headerAt-other}
 
 -- ---- the order
 
@@ -194,3 +195,22 @@ module _ {s : List ℕ} {n w : ℕ} {f : Found} (hs : Halves s n) (fd : Finds s 
       by-cases (lt-or-le w intBase)
       (λ l. rw (decode-float-range w (omega arith) l))
       (λ r. rw (decode-int-range w r))))
+
+-- ---- halves after a store
+
+pub halves-ext : {s : List ℕ} {n : ℕ} (s′ : List ℕ) → Halves s n → ((j : ℕ) → j < n → (headerAt s′ j .kind ≡ headerAt s j .kind) × (headerAt s′ j .half ≡ headerAt s j .half)) → Halves s′ n
+halves-ext s′ g h =
+    record {
+      low = λ j l p. omega (arith, g .low j l (λ z. p (h j l .0 ∙ z)), h j l .1);
+      high = λ j l p. omega (arith, g .high j l (λ z. p (h j l .0 ∙ z)), h j l .1);
+    }
+
+-- slot i, one of n or the next, gets a header
+pub halves-put : {s : List ℕ} {n : ℕ} (n′ i : ℕ) (h : Header) → Halves s n → i * 8 + 8 ≤ length s → ((j : ℕ) → j < n′ → (j ≡ i → ⊥) → j < n) → ((h .kind ≡ 0 → ⊥) → (65536 ≤ h .half) × (h .half < 131072)) → Halves (setHeader s i h) n′
+halves-put {s} {n} n′ i h g fits old w =
+    let is : (j : ℕ) → j ≡ i → headerAt (setHeader s i h) j ≡ h = λ j e. ap (headerAt (setHeader s i h)) e ∙ headerAt-same s i h fits in
+    let other : (j : ℕ) → (j ≡ i → ⊥) → headerAt (setHeader s i h) j ≡ headerAt s j = λ j ne. headerAt-other s i j h ne in
+    record {
+      low = λ j l p. by-cases (same-or-not j i) (λ e. rw (is j e) (w (rw (is j e) at p) .0)) (λ ne. rw (other j ne) (g .low j (old j l ne) (rw (other j ne) at p)));
+      high = λ j l p. by-cases (same-or-not j i) (λ e. rw (is j e) (w (rw (is j e) at p) .1)) (λ ne. rw (other j ne) (g .high j (old j l ne) (rw (other j ne) at p)));
+    }

@@ -1,3 +1,4 @@
+-- `cells::copy_words` meets its contract. Assumes nothing.
 use Prim.Native.Nat.{_≤_, _-_}
 use native.Mathlib.Omega.{arith}
 use mathlib.Core.Path.{refl}
@@ -5,8 +6,6 @@ use lib.ListN.{length, getD}
 use Rattle.cells.proofs.MoveLaws.{Put, put-none, put-more, put-copied}
 use Rattle.cells.proofs.copy_words.Statement.{statement}
 use Rattle.cells.proofs.copy_words.Tie as tie
-use Rattle.cells.proofs.copy_words.Reads as reads
-use Rattle.cells.proofs.copy_words.Lts as lts
 
 abbrev Inv-loop : tie.InvT-loop
 Inv-loop words cells₀ from j₀ cells j = (j ≤ length words) × Put (λ r. getD words r 0) cells₀ cells from j
@@ -14,47 +13,36 @@ Inv-loop words cells₀ from j₀ cells j = (j ≤ length words) × Put (λ r. g
 abbrev μ-loop : tie.MeasureT-loop
 μ-loop words cells₀ from j₀ cells j = length words - j
 
--- src/lib.rt:58:5
 loop-holds : tie.Need-loop-holds Inv-loop μ-loop
 loop-holds c = (omega arith, put-none _ _ _)
 
--- src/lib.rt:59:27
 mul-cells : tie.Need-mul-cells Inv-loop μ-loop
 mul-cells c = omega arith
 
--- src/lib.rt:59:27
 shared-slice-read-cells : tie.Need-shared-slice-read-cells Inv-loop μ-loop
 shared-slice-read-cells c = omega arith
 
--- src/lib.rt:59:15
 add-cells : tie.Need-add-cells Inv-loop μ-loop
 add-cells c = omega arith
 
--- src/lib.rt:59:9
 mul-cells-2 : tie.Need-mul-cells-2 Inv-loop μ-loop
 mul-cells-2 c = omega arith
 
--- src/lib.rt:59:9
 slice-write-cells : tie.Need-slice-write-cells Inv-loop μ-loop
 slice-write-cells c = omega (arith, c .before .before .loop .inv .1 .len)
 
--- src/lib.rt:60:9
 add-j : tie.Need-add-j Inv-loop μ-loop
 add-j c = omega arith
 
--- src/lib.rt:58:5
 loop-less : tie.Need-loop-less Inv-loop μ-loop
 loop-less c = omega arith
 
--- src/lib.rt:58:5
 loop-again : tie.Need-loop-again Inv-loop μ-loop
 loop-again c = (omega arith, put-more _ (c .before .before .loop .inv .1) (omega arith) refl)
 
--- src/lib.rt:53:1
 same-length : tie.Need-same-length Inv-loop μ-loop
 same-length c = c .before .loop .inv .1 .len
 
--- src/lib.rt:53:1
 returns : tie.Need-returns Inv-loop μ-loop
 returns c = put-copied (c .before .loop .inv .1) (c .before .loop .inv .0) (c .loop-test .left) (c .before .before .pre .0)
 

@@ -1,3 +1,4 @@
+-- `cells::fill` meets its contract. Assumes nothing.
 use Prim.Native.Nat.{_≤_, _-_}
 use native.Mathlib.Omega.{arith}
 use native.Mathlib.Nat.{le-antisymm}
@@ -5,8 +6,6 @@ use mathlib.Core.Path.{refl}
 use Rattle.cells.proofs.MoveLaws.{Put, put-none, put-more, put-filled}
 use Rattle.cells.proofs.fill.Statement.{statement}
 use Rattle.cells.proofs.fill.Tie as tie
-use Rattle.cells.proofs.fill.Reads as reads
-use Rattle.cells.proofs.fill.Lts as lts
 
 abbrev Inv-loop : tie.InvT-loop
 Inv-loop cells₀ from n j₀ cells j = (j ≤ n) × Put (λ r. 0) cells₀ cells from j
@@ -14,39 +13,30 @@ Inv-loop cells₀ from n j₀ cells j = (j ≤ n) × Put (λ r. 0) cells₀ cell
 abbrev μ-loop : tie.MeasureT-loop
 μ-loop cells₀ from n j₀ cells j = n - j
 
--- src/lib.rt:47:5
 loop-holds : tie.Need-loop-holds Inv-loop μ-loop
 loop-holds c = (omega arith, put-none _ _ _)
 
--- src/lib.rt:48:15
 add-cells : tie.Need-add-cells Inv-loop μ-loop
 add-cells c = omega arith
 
--- src/lib.rt:48:9
 mul-cells : tie.Need-mul-cells Inv-loop μ-loop
 mul-cells c = omega arith
 
--- src/lib.rt:48:9
 slice-write-cells : tie.Need-slice-write-cells Inv-loop μ-loop
 slice-write-cells c = omega (arith, c .before .loop .inv .1 .len)
 
--- src/lib.rt:49:9
 add-j : tie.Need-add-j Inv-loop μ-loop
 add-j c = omega arith
 
--- src/lib.rt:47:5
 loop-less : tie.Need-loop-less Inv-loop μ-loop
 loop-less c = omega arith
 
--- src/lib.rt:47:5
 loop-again : tie.Need-loop-again Inv-loop μ-loop
 loop-again c = (omega arith, put-more 0 (c .before .loop .inv .1) (omega arith) refl)
 
--- src/lib.rt:42:1
 same-length : tie.Need-same-length Inv-loop μ-loop
 same-length c = c .before .loop .inv .1 .len
 
--- src/lib.rt:42:1
 returns : tie.Need-returns Inv-loop μ-loop
 returns c = put-filled (rw (le-antisymm (c .before .loop .inv .0) (c .loop-test .left)) at (c .before .loop .inv .1))
 

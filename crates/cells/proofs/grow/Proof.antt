@@ -1,88 +1,64 @@
+-- `cells::grow` meets its contract. Assumes nothing.
 use native.Mathlib.Omega.{arith}
 use Rattle.cells.proofs.GrowLaws.{grow-fits, extend-asks}
 use borrow.Author.Needs.{needs}
 use Rattle.cells.proofs.grow.Statement.{statement}
 use Rattle.cells.proofs.grow.Tie as tie
-use Rattle.cells.proofs.grow.Reads as reads
-use Rattle.cells.proofs.grow.Lts as lts
-use Rattle.cells.proofs.extend.Reads as extend-reads
-use Rattle.cells.proofs.relocate.Reads as relocate-reads
-use Rattle.cells.proofs.repack.Reads as repack-reads
-use Rattle.slots.proofs.read_header.Reads as read-header-reads
 
--- src/lib.rt:328:9
 read-header-requires : tie.Need-read-header-requires
 read-header-requires c κs = search needs
 
--- src/lib.rt:331:12
 add-if2 : tie.Need-add-if2
 add-if2 c = let b = grow-fits ((c .before .before .before .before .before .before .before .before .pre .0)) ((c .before .before .before .read-header .ensures)) ((c .before .before .before .before .before .before .before .before .pre .1)) in omega (arith, b .region, b .size-max, b .top-max)
 
--- src/lib.rt:332:16
 add-if3 : tie.Need-add-if3
 add-if3 c = let b = grow-fits ((c .before .before .before .before .before .before .before .before .before .before .before .pre .0)) ((c .before .before .before .before .before .before .read-header .ensures)) ((c .before .before .before .before .before .before .before .before .before .before .before .pre .1)) in omega (arith, b .region, b .size-max, b .top-max)
 
--- src/lib.rt:333:17
 extend-requires : tie.Need-extend-requires
 extend-requires c κs = extend-asks ((c .before .before .before .before .before .before .before .before .before .before .before .before .before .before .before .pre .0)) ((c .before .before .before .before .before .before .before .before .before .before .read-header .ensures)) ((c .before .before .before .before .before .before .before .before .if1 .taken)) ((c .before .before .before .before .before .if2 .taken)) ((c .before .before .before .if3 .taken))
 
--- src/lib.rt:333:17
 same-length : tie.Need-same-length
 same-length c = search needs
 
--- src/lib.rt:333:17
 same-length-2 : tie.Need-same-length-2
 same-length-2 c = search needs
 
--- src/lib.rt:333:17
 same-length-3 : tie.Need-same-length-3
 same-length-3 c = search needs
 
--- src/lib.rt:333:17
 returns : tie.Need-returns
 returns c = search needs
 
--- src/lib.rt:337:8
 add-if4 : tie.Need-add-if4
 add-if4 c = let b = grow-fits ((c .before .before .before .before .before .before .before .before .pre .0)) ((c .before .before .before .read-header .ensures)) ((c .before .before .before .before .before .before .before .before .pre .1)) in omega (arith, b .region, b .size-max, b .top-max)
 
--- src/lib.rt:339:13
 relocate-requires : tie.Need-relocate-requires
 relocate-requires c κs = ((c .before .before .before .before .before .before .before .before .before .before .before .before .before .before .pre .0), (c .before .before .before .before .before .if4 .taken), omega (arith, (c .before .before .before .if5 .taken), (c .before .before .before .before .before .before .before .before .before .before .before .before .before .before .pre .3)), omega (arith, (c .before .before .before .if5 .taken), (c .before .before .before .before .before .before .before .before .before .before .before .before .before .before .pre .4)))
 
--- src/lib.rt:339:13
 same-length-4 : tie.Need-same-length-4
 same-length-4 c = search needs
 
--- src/lib.rt:339:13
 same-length-5 : tie.Need-same-length-5
 same-length-5 c = search needs
 
--- src/lib.rt:339:13
 same-length-6 : tie.Need-same-length-6
 same-length-6 c = search needs
 
--- src/lib.rt:339:13
 returns-2 : tie.Need-returns-2
 returns-2 c = search needs
 
--- src/lib.rt:342:5
 repack-requires : tie.Need-repack-requires
 repack-requires c κs = ((c .before .before .before .before .before .before .before .before .before .before .before .before .pre .0), (c .before .before .before .before .before .before .before .before .before .before .before .before .pre .1), omega (arith, (c .before .before .before .before .before .before .before .before .before .before .before .before .pre .2), (c .before .before .before .before .before .before .before .before .before .before .before .before .pre .3)))
 
--- src/lib.rt:324:1
 same-length-7 : tie.Need-same-length-7
 same-length-7 c = search needs
 
--- src/lib.rt:324:1
 same-length-8 : tie.Need-same-length-8
 same-length-8 c = search needs
 
--- src/lib.rt:324:1
 same-length-9 : tie.Need-same-length-9
 same-length-9 c = search needs
 
--- src/lib.rt:324:1
 returns-3 : tie.Need-returns-3
 returns-3 c = search needs
 

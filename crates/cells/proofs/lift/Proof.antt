@@ -1,24 +1,18 @@
+-- `cells::lift` meets its contract. Assumes nothing.
 use Rattle.cells.proofs.MoveLaws.{moved-none}
 use borrow.Author.Needs.{needs}
 use Rattle.cells.proofs.lift.Statement.{statement}
 use Rattle.cells.proofs.lift.Tie as tie
-use Rattle.cells.proofs.lift.Reads as reads
-use Rattle.cells.proofs.lift.Lts as lts
-use Rattle.cells.proofs.move_up.Reads as move-up-reads
 
--- src/lib.rt:239:9
 returns : tie.Need-returns
 returns c = moved-none _ _ _ _ ((c .if1 .taken))
 
--- src/lib.rt:241:5
 move-up-requires : tie.Need-move-up-requires
 move-up-requires c κs = ((c .before .before .before .pre .0) ((c .before .if1 .left)), (c .before .before .before .pre .1), (c .before .before .before .pre .2))
 
--- src/lib.rt:234:1
 same-length : tie.Need-same-length
 same-length c = search needs
 
--- src/lib.rt:234:1
 returns-2 : tie.Need-returns-2
 returns-2 c = search needs
 

@@ -1,10 +1,9 @@
-use Prim.Native.Nat.{_≤_, _-_}
+-- `cells::move_up` meets its contract. Assumes nothing.
+use Prim.Native.Nat.{_≤_}
 use native.Mathlib.Omega.{arith}
 use Rattle.cells.proofs.MoveLaws.{PutFrom, source, from-none, up-more, from-moved}
 use Rattle.cells.proofs.move_up.Statement.{statement}
 use Rattle.cells.proofs.move_up.Tie as tie
-use Rattle.cells.proofs.move_up.Reads as reads
-use Rattle.cells.proofs.move_up.Lts as lts
 
 abbrev Inv-loop : tie.InvT-loop
 Inv-loop cells₀ from to n j₀ cells j = (j ≤ n) × PutFrom (source cells₀ from) cells₀ cells to n j
@@ -12,51 +11,39 @@ Inv-loop cells₀ from to n j₀ cells j = (j ≤ n) × PutFrom (source cells₀
 abbrev μ-loop : tie.MeasureT-loop
 μ-loop cells₀ from to n j₀ cells j = j
 
--- src/lib.rt:36:5
 loop-holds : tie.Need-loop-holds Inv-loop μ-loop
 loop-holds c = (omega arith, from-none _ _ _ _)
 
--- src/lib.rt:37:9
 sub-j : tie.Need-sub-j Inv-loop μ-loop
 sub-j c = omega arith
 
--- src/lib.rt:38:31
 add-cells : tie.Need-add-cells Inv-loop μ-loop
 add-cells c = omega arith
 
--- src/lib.rt:38:25
 mul-cells : tie.Need-mul-cells Inv-loop μ-loop
 mul-cells c = omega arith
 
--- src/lib.rt:38:25
 slice-read-cells : tie.Need-slice-read-cells Inv-loop μ-loop
 slice-read-cells c = omega arith
 
--- src/lib.rt:38:15
 add-cells-2 : tie.Need-add-cells-2 Inv-loop μ-loop
 add-cells-2 c = omega arith
 
--- src/lib.rt:38:9
 mul-cells-2 : tie.Need-mul-cells-2 Inv-loop μ-loop
 mul-cells-2 c = omega arith
 
--- src/lib.rt:38:9
 slice-write-cells : tie.Need-slice-write-cells Inv-loop μ-loop
 slice-write-cells c = omega arith
 
--- src/lib.rt:36:5
 loop-less : tie.Need-loop-less Inv-loop μ-loop
 loop-less c = omega arith
 
--- src/lib.rt:36:5
 loop-again : tie.Need-loop-again Inv-loop μ-loop
 loop-again c = (omega arith, up-more (c .before .before .loop .inv .1) (c .before .before .before .pre .0) (omega arith) (omega arith) (omega arith))
 
--- src/lib.rt:31:1
 same-length : tie.Need-same-length Inv-loop μ-loop
 same-length c = c .before .loop .inv .1 .len
 
--- src/lib.rt:31:1
 returns : tie.Need-returns Inv-loop μ-loop
 returns c = from-moved (c .before .loop .inv .1) (omega arith)
 

@@ -1,160 +1,120 @@
+-- `cells::pack_cell` meets its contract. Assumes nothing.
 use Rattle.cells.proofs.StringLaws.{packs-eight}
 use borrow.Author.Needs.{needs}
 use Rattle.cells.proofs.pack_cell.Statement.{statement}
 use Rattle.cells.proofs.pack_cell.Tie as tie
-use Rattle.cells.proofs.pack_cell.Reads as reads
-use Rattle.cells.proofs.pack_cell.Lts as lts
-use Rattle.cells.proofs.wide.Reads as wide-reads
 
--- src/lib.rt:75:20
 shared-slice-read-wide : tie.Need-shared-slice-read-wide
 shared-slice-read-wide c = search needs
 
--- src/lib.rt:75:15
 wide-requires : tie.Need-wide-requires
 wide-requires c κs = search needs
 
--- src/lib.rt:75:50
 add-wide : tie.Need-add-wide
 add-wide c = search needs
 
--- src/lib.rt:75:44
 shared-slice-read-wide-2 : tie.Need-shared-slice-read-wide-2
 shared-slice-read-wide-2 c = search needs
 
--- src/lib.rt:75:39
 wide-requires-2 : tie.Need-wide-requires-2
 wide-requires-2 c κs = search needs
 
--- src/lib.rt:75:33
 mul-low : tie.Need-mul-low
 mul-low c = search needs
 
--- src/lib.rt:75:15
 add-low : tie.Need-add-low
 add-low c = search needs
 
--- src/lib.rt:75:80
 add-wide-2 : tie.Need-add-wide-2
 add-wide-2 c = search needs
 
--- src/lib.rt:75:74
 shared-slice-read-wide-3 : tie.Need-shared-slice-read-wide-3
 shared-slice-read-wide-3 c = search needs
 
--- src/lib.rt:75:69
 wide-requires-3 : tie.Need-wide-requires-3
 wide-requires-3 c κs = search needs
 
--- src/lib.rt:75:61
 mul-low-2 : tie.Need-mul-low-2
 mul-low-2 c = search needs
 
--- src/lib.rt:75:15
 add-low-2 : tie.Need-add-low-2
 add-low-2 c = search needs
 
--- src/lib.rt:75:113
 add-wide-3 : tie.Need-add-wide-3
 add-wide-3 c = search needs
 
--- src/lib.rt:75:107
 shared-slice-read-wide-4 : tie.Need-shared-slice-read-wide-4
 shared-slice-read-wide-4 c = search needs
 
--- src/lib.rt:75:102
 wide-requires-4 : tie.Need-wide-requires-4
 wide-requires-4 c κs = search needs
 
--- src/lib.rt:75:91
 mul-low-3 : tie.Need-mul-low-3
 mul-low-3 c = search needs
 
--- src/lib.rt:75:15
 add-low-3 : tie.Need-add-low-3
 add-low-3 c = search needs
 
--- src/lib.rt:76:27
 add-wide-4 : tie.Need-add-wide-4
 add-wide-4 c = search needs
 
--- src/lib.rt:76:21
 shared-slice-read-wide-5 : tie.Need-shared-slice-read-wide-5
 shared-slice-read-wide-5 c = search needs
 
--- src/lib.rt:76:16
 wide-requires-5 : tie.Need-wide-requires-5
 wide-requires-5 c κs = search needs
 
--- src/lib.rt:76:55
 add-wide-5 : tie.Need-add-wide-5
 add-wide-5 c = search needs
 
--- src/lib.rt:76:49
 shared-slice-read-wide-6 : tie.Need-shared-slice-read-wide-6
 shared-slice-read-wide-6 c = search needs
 
--- src/lib.rt:76:44
 wide-requires-6 : tie.Need-wide-requires-6
 wide-requires-6 c κs = search needs
 
--- src/lib.rt:76:38
 mul-high : tie.Need-mul-high
 mul-high c = search needs
 
--- src/lib.rt:76:16
 add-high : tie.Need-add-high
 add-high c = search needs
 
--- src/lib.rt:76:85
 add-wide-6 : tie.Need-add-wide-6
 add-wide-6 c = search needs
 
--- src/lib.rt:76:79
 shared-slice-read-wide-7 : tie.Need-shared-slice-read-wide-7
 shared-slice-read-wide-7 c = search needs
 
--- src/lib.rt:76:74
 wide-requires-7 : tie.Need-wide-requires-7
 wide-requires-7 c κs = search needs
 
--- src/lib.rt:76:66
 mul-high-2 : tie.Need-mul-high-2
 mul-high-2 c = search needs
 
--- src/lib.rt:76:16
 add-high-2 : tie.Need-add-high-2
 add-high-2 c = search needs
 
--- src/lib.rt:76:118
 add-wide-7 : tie.Need-add-wide-7
 add-wide-7 c = search needs
 
--- src/lib.rt:76:112
 shared-slice-read-wide-8 : tie.Need-shared-slice-read-wide-8
 shared-slice-read-wide-8 c = search needs
 
--- src/lib.rt:76:107
 wide-requires-8 : tie.Need-wide-requires-8
 wide-requires-8 c κs = search needs
 
--- src/lib.rt:76:96
 mul-high-3 : tie.Need-mul-high-3
 mul-high-3 c = search needs
 
--- src/lib.rt:76:16
 add-high-3 : tie.Need-add-high-3
 add-high-3 c = search needs
 
--- src/lib.rt:77:11
 mul-result : tie.Need-mul-result
 mul-result c = search needs
 
--- src/lib.rt:77:5
 add-result : tie.Need-add-result
 add-result c = search needs
 
--- src/lib.rt:71:1
 returns : tie.Need-returns
 returns c = packs-eight _ _ _ _ _ _ _ _ _ _ (c .before .before .before .before .before .before .before .before .before .before .before .before .before .before .wide .ensures) (c .before .before .before .before .before .before .before .before .before .before .before .before .wide2 .ensures) (c .before .before .before .before .before .before .before .before .before .before .wide3 .ensures) (c .before .before .before .before .before .before .before .before .wide4 .ensures) (c .before .before .before .before .before .before .wide5 .ensures) (c .before .before .before .before .wide6 .ensures) (c .before .before .wide7 .ensures) (c .wide8 .ensures)
 

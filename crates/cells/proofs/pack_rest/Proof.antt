@@ -1,3 +1,4 @@
+-- `cells::pack_rest` meets its contract. Assumes nothing.
 use Prim.Native.Nat.{_≤_, _<_, _-_, _^_}
 use native.Mathlib.Omega.{arith}
 use native.Mathlib.Nat.{le-antisymm}
@@ -7,9 +8,6 @@ use Rattle.cells.specs.Moves.{Packs}
 use Rattle.cells.proofs.StringLaws.{packs-none, packs-more, packs-small, packs-zero, packs-next}
 use Rattle.cells.proofs.pack_rest.Statement.{statement}
 use Rattle.cells.proofs.pack_rest.Tie as tie
-use Rattle.cells.proofs.pack_rest.Reads as reads
-use Rattle.cells.proofs.pack_rest.Lts as lts
-use Rattle.cells.proofs.wide.Reads as wide-reads
 
 abbrev Inv-loop : tie.InvT-loop
 Inv-loop bytes at w₀ j₀ w j = (at ≤ j) × (j ≤ length bytes) × Packs bytes j w × (w < 256 ^ (length bytes - j))
@@ -17,39 +15,30 @@ Inv-loop bytes at w₀ j₀ w j = (at ≤ j) × (j ≤ length bytes) × Packs by
 abbrev μ-loop : tie.MeasureT-loop
 μ-loop bytes at w₀ j₀ w j = j - at
 
--- src/lib.rt:87:5
 loop-holds : tie.Need-loop-holds Inv-loop μ-loop
 loop-holds c = (omega arith, omega arith, packs-none _ _ _ (omega arith), packs-zero _)
 
--- src/lib.rt:88:9
 sub-j : tie.Need-sub-j Inv-loop μ-loop
 sub-j c = omega arith
 
--- src/lib.rt:89:13
 mul-w : tie.Need-mul-w Inv-loop μ-loop
 mul-w c = omega (arith, packs-small _ _ ((c .before .loop .inv .3)) (omega arith))
 
--- src/lib.rt:89:28
 shared-slice-read-wide : tie.Need-shared-slice-read-wide Inv-loop μ-loop
 shared-slice-read-wide c = omega arith
 
--- src/lib.rt:89:23
 wide-requires : tie.Need-wide-requires Inv-loop μ-loop
 wide-requires c κs = search needs
 
--- src/lib.rt:89:13
 add-w : tie.Need-add-w Inv-loop μ-loop
 add-w c = omega (arith, packs-small _ _ ((c .before .before .before .loop .inv .3)) (omega arith))
 
--- src/lib.rt:87:5
 loop-less : tie.Need-loop-less Inv-loop μ-loop
 loop-less c = omega arith
 
--- src/lib.rt:87:5
 loop-again : tie.Need-loop-again Inv-loop μ-loop
 loop-again c = (omega arith, omega arith, packs-more _ ((c .before .before .before .loop .inv .2)) (omega arith) ((c .wide .ensures .0)) ((c .wide .ensures .1)), packs-next _ _ _ _ ((c .before .before .before .loop .inv .3)) ((c .wide .ensures .1)) (omega arith) (omega arith))
 
--- src/lib.rt:81:1
 returns : tie.Need-returns Inv-loop μ-loop
 returns c = rw (le-antisymm ((c .loop-test .left)) ((c .before .loop .inv .0))) at ((c .before .loop .inv .2))
 

@@ -1,3 +1,4 @@
+-- `cells::read_string` meets its contract. Assumes nothing.
 use Prim.Native.Nat.{_≤_, _-_, _*_}
 use native.Mathlib.Omega.{arith}
 use native.Mathlib.Nat.{le-antisymm}
@@ -5,10 +6,6 @@ use mathlib.Core.Path.{refl, _∙_}
 use Rattle.cells.proofs.StringLaws.{ReadTo, read-none, read-more, read-next, read-end}
 use Rattle.cells.proofs.read_string.Statement.{statement}
 use Rattle.cells.proofs.read_string.Tie as tie
-use Rattle.cells.proofs.read_string.Reads as reads
-use Rattle.cells.proofs.read_string.Lts as lts
-use Rattle.cells.proofs.unpack_cell.Reads as unpack-cell-reads
-use Rattle.cells.proofs.unpack_rest.Reads as unpack-rest-reads
 
 abbrev Inv-loop : tie.InvT-loop
 Inv-loop cells from n buffer₀ whole q₀ buffer q = (q ≤ whole) × ReadTo cells from buffer₀ buffer (q * 8)
@@ -16,87 +13,66 @@ Inv-loop cells from n buffer₀ whole q₀ buffer q = (q ≤ whole) × ReadTo ce
 abbrev μ-loop : tie.MeasureT-loop
 μ-loop cells from n buffer₀ whole q₀ buffer q = whole - q
 
--- src/lib.rt:146:5
 loop-holds : tie.Need-loop-holds Inv-loop μ-loop
 loop-holds c = (omega arith, read-none _ _ _)
 
--- src/lib.rt:147:27
 add-unpack-cell : tie.Need-add-unpack-cell Inv-loop μ-loop
 add-unpack-cell c = omega arith
 
--- src/lib.rt:147:21
 mul-unpack-cell : tie.Need-mul-unpack-cell Inv-loop μ-loop
 mul-unpack-cell c = omega arith
 
--- src/lib.rt:147:21
 shared-slice-read-unpack-cell : tie.Need-shared-slice-read-unpack-cell Inv-loop μ-loop
 shared-slice-read-unpack-cell c = omega arith
 
--- src/lib.rt:147:46
 mul-unpack-cell-2 : tie.Need-mul-unpack-cell-2 Inv-loop μ-loop
 mul-unpack-cell-2 c = omega arith
 
--- src/lib.rt:147:9
 unpack-cell-requires : tie.Need-unpack-cell-requires Inv-loop μ-loop
 unpack-cell-requires c κs = omega (arith, (c .before .before .before .loop .inv .1 .len))
 
--- src/lib.rt:148:9
 add-q : tie.Need-add-q Inv-loop μ-loop
 add-q c = omega arith
 
--- src/lib.rt:146:5
 loop-less : tie.Need-loop-less Inv-loop μ-loop
 loop-less c = omega arith
 
--- src/lib.rt:146:5
 loop-again : tie.Need-loop-again Inv-loop μ-loop
 loop-again c = (omega arith, read-next _ ((c .before .before .before .before .before .before .loop .inv .1)) ((c .before .before .unpack-cell .ensures)) refl)
 
--- src/lib.rt:150:8
 mul-if1 : tie.Need-mul-if1 Inv-loop μ-loop
 mul-if1 c = omega arith
 
--- src/lib.rt:151:27
 add-unpack-rest : tie.Need-add-unpack-rest Inv-loop μ-loop
 add-unpack-rest c = omega arith
 
--- src/lib.rt:151:21
 mul-unpack-rest : tie.Need-mul-unpack-rest Inv-loop μ-loop
 mul-unpack-rest c = omega arith
 
--- src/lib.rt:151:21
 shared-slice-read-unpack-rest : tie.Need-shared-slice-read-unpack-rest Inv-loop μ-loop
 shared-slice-read-unpack-rest c = omega arith
 
--- src/lib.rt:151:50
 mul-unpack-rest-2 : tie.Need-mul-unpack-rest-2 Inv-loop μ-loop
 mul-unpack-rest-2 c = omega arith
 
--- src/lib.rt:151:65
 mul-unpack-rest-3 : tie.Need-mul-unpack-rest-3 Inv-loop μ-loop
 mul-unpack-rest-3 c = omega arith
 
--- src/lib.rt:151:61
 sub-unpack-rest : tie.Need-sub-unpack-rest Inv-loop μ-loop
 sub-unpack-rest c = omega arith
 
--- src/lib.rt:151:9
 unpack-rest-requires : tie.Need-unpack-rest-requires Inv-loop μ-loop
 unpack-rest-requires c κs = (omega arith, omega (arith, (c .before .before .before .before .loop .inv .1 .len)))
 
--- src/lib.rt:140:1
 same-length : tie.Need-same-length Inv-loop μ-loop
 same-length c = (c .before .before .unpack-rest .ensures .len) ∙ (c .before .before .before .before .before .before .before .loop .inv .1 .len)
 
--- src/lib.rt:140:1
 returns : tie.Need-returns Inv-loop μ-loop
 returns c = read-end _ (read-more _ (rw (le-antisymm ((c .before .before .before .before .before .before .before .loop .inv .0)) ((c .before .before .before .before .before .before .loop-test .left))) at ((c .before .before .before .before .before .before .before .loop .inv .1))) ((c .before .before .unpack-rest .ensures)) (omega arith) refl) (omega arith) ((c .before .before .before .before .before .before .before .before .before .before .pre .2))
 
--- src/lib.rt:140:1
 same-length-2 : tie.Need-same-length-2 Inv-loop μ-loop
 same-length-2 c = (c .before .before .loop .inv .1 .len)
 
--- src/lib.rt:140:1
 returns-2 : tie.Need-returns-2 Inv-loop μ-loop
 returns-2 c = read-end _ ((c .before .before .loop .inv .1)) (omega arith) ((c .before .before .before .before .before .pre .2))
 

@@ -4,11 +4,11 @@ use borrow.Author.Needs.{needs}
 use Rattle.heap.proofs.fits.Statement.{statement}
 use Rattle.heap.proofs.fits.Tie as tie
 
-fits-requires : tie.Need-fits-requires
-fits-requires c κs = search needs
+allows-requires : tie.Need-allows-requires
+allows-requires c κs = search needs
 
 returns : tie.Need-returns
-returns c = fits-read (c .before .before .before .before .before .before .before .pre) (c .fits2 .ensures)
+returns c = fits-read (c .before .before .before .before .before .before .before .pre) (c .allows .ensures)
 
 pub fits-spec : {M : Type 1} → statement M
-fits-spec = tie.close (tie.spec fits-requires returns)
+fits-spec = tie.close (tie.spec allows-requires returns)

@@ -1,107 +1,81 @@
+-- `slots::read_scalars` meets its contract. Assumes nothing.
 use Rattle.slots.specs.Header.{scalarsAt}
 use borrow.Author.Needs.{needs}
 use Rattle.slots.proofs.read_scalars.Statement.{statement}
 use Rattle.slots.proofs.read_scalars.Tie as tie
-use Rattle.slots.proofs.read_scalars.Reads as reads
-use Rattle.slots.proofs.read_scalars.Lts as lts
 
--- src/lib.rt:111:13
 mul-p : tie.Need-mul-p
 mul-p c = search needs
 
--- src/lib.rt:113:12
 mul-t4 : tie.Need-mul-t4
 mul-t4 c = search needs
 
--- src/lib.rt:113:12
 shared-slice-read-t6 : tie.Need-shared-slice-read-t6
 shared-slice-read-t6 c = search needs
 
--- src/lib.rt:114:20
 add-t7 : tie.Need-add-t7
 add-t7 c = search needs
 
--- src/lib.rt:114:12
 mul-t8 : tie.Need-mul-t8
 mul-t8 c = search needs
 
--- src/lib.rt:114:12
 shared-slice-read-t10 : tie.Need-shared-slice-read-t10
 shared-slice-read-t10 c = search needs
 
--- src/lib.rt:115:20
 add-t11 : tie.Need-add-t11
 add-t11 c = search needs
 
--- src/lib.rt:115:12
 mul-t12 : tie.Need-mul-t12
 mul-t12 c = search needs
 
--- src/lib.rt:115:12
 shared-slice-read-t14 : tie.Need-shared-slice-read-t14
 shared-slice-read-t14 c = search needs
 
--- src/lib.rt:116:20
 add-t15 : tie.Need-add-t15
 add-t15 c = search needs
 
--- src/lib.rt:116:12
 mul-t16 : tie.Need-mul-t16
 mul-t16 c = search needs
 
--- src/lib.rt:116:12
 shared-slice-read-t18 : tie.Need-shared-slice-read-t18
 shared-slice-read-t18 c = search needs
 
--- src/lib.rt:117:20
 add-t19 : tie.Need-add-t19
 add-t19 c = search needs
 
--- src/lib.rt:117:12
 mul-t20 : tie.Need-mul-t20
 mul-t20 c = search needs
 
--- src/lib.rt:117:12
 shared-slice-read-t22 : tie.Need-shared-slice-read-t22
 shared-slice-read-t22 c = search needs
 
--- src/lib.rt:118:20
 add-t23 : tie.Need-add-t23
 add-t23 c = search needs
 
--- src/lib.rt:118:12
 mul-t24 : tie.Need-mul-t24
 mul-t24 c = search needs
 
--- src/lib.rt:118:12
 shared-slice-read-t26 : tie.Need-shared-slice-read-t26
 shared-slice-read-t26 c = search needs
 
--- src/lib.rt:119:20
 add-t27 : tie.Need-add-t27
 add-t27 c = search needs
 
--- src/lib.rt:119:12
 mul-t28 : tie.Need-mul-t28
 mul-t28 c = search needs
 
--- src/lib.rt:119:12
 shared-slice-read-t30 : tie.Need-shared-slice-read-t30
 shared-slice-read-t30 c = search needs
 
--- src/lib.rt:120:20
 add-t31 : tie.Need-add-t31
 add-t31 c = search needs
 
--- src/lib.rt:120:12
 mul-t32 : tie.Need-mul-t32
 mul-t32 c = search needs
 
--- src/lib.rt:120:12
 shared-slice-read-t34 : tie.Need-shared-slice-read-t34
 shared-slice-read-t34 c = search needs
 
--- src/lib.rt:107:1
 returns : tie.Need-returns
 unfolding scalarsAt
 returns c = search needs

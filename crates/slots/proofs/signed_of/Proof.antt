@@ -1,5 +1,5 @@
 -- `slots::signed_of` meets its contract: the two halves put together are the 64 bits again. Assumes nothing.
-use mathlib.Core.Path.{_≡_, refl, _∙_, ap}
+use mathlib.Core.Path.{_≡_, _∙_, ap}
 use Prim.Native.Nat.{ℕ, _+_, _*_, _/_, _%_, _<_}
 use native.Mathlib.Omega.{arith}
 use borrow.Author.Needs.{needs}

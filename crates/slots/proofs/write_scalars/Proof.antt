@@ -1,113 +1,86 @@
+-- `slots::write_scalars` meets its contract. Assumes nothing.
 use Rattle.slots.specs.Header.{setScalars}
 use native.Mathlib.Omega.{arith}
 use lib.ListN.{length-set}
 use borrow.Author.Needs.{needs}
 use Rattle.slots.proofs.write_scalars.Statement.{statement}
 use Rattle.slots.proofs.write_scalars.Tie as tie
-use Rattle.slots.proofs.write_scalars.Reads as reads
-use Rattle.slots.proofs.write_scalars.Lts as lts
 
--- src/lib.rt:128:13
 mul-p : tie.Need-mul-p
 mul-p c = search needs
 
--- src/lib.rt:129:5
 mul-scalars : tie.Need-mul-scalars
 mul-scalars c = search needs
 
--- src/lib.rt:129:5
 slice-write-scalars : tie.Need-slice-write-scalars
 slice-write-scalars c = search needs
 
--- src/lib.rt:130:13
 add-scalars : tie.Need-add-scalars
 add-scalars c = search needs
 
--- src/lib.rt:130:5
 mul-scalars-2 : tie.Need-mul-scalars-2
 mul-scalars-2 c = search needs
 
--- src/lib.rt:130:5
 slice-write-scalars-2 : tie.Need-slice-write-scalars-2
 slice-write-scalars-2 c = simp length-set (omega arith)
 
--- src/lib.rt:131:13
 add-scalars-2 : tie.Need-add-scalars-2
 add-scalars-2 c = search needs
 
--- src/lib.rt:131:5
 mul-scalars-3 : tie.Need-mul-scalars-3
 mul-scalars-3 c = search needs
 
--- src/lib.rt:131:5
 slice-write-scalars-3 : tie.Need-slice-write-scalars-3
 slice-write-scalars-3 c = simp length-set (omega arith)
 
--- src/lib.rt:132:13
 add-scalars-3 : tie.Need-add-scalars-3
 add-scalars-3 c = search needs
 
--- src/lib.rt:132:5
 mul-scalars-4 : tie.Need-mul-scalars-4
 mul-scalars-4 c = search needs
 
--- src/lib.rt:132:5
 slice-write-scalars-4 : tie.Need-slice-write-scalars-4
 slice-write-scalars-4 c = simp length-set (omega arith)
 
--- src/lib.rt:133:13
 add-scalars-4 : tie.Need-add-scalars-4
 add-scalars-4 c = search needs
 
--- src/lib.rt:133:5
 mul-scalars-5 : tie.Need-mul-scalars-5
 mul-scalars-5 c = search needs
 
--- src/lib.rt:133:5
 slice-write-scalars-5 : tie.Need-slice-write-scalars-5
 slice-write-scalars-5 c = simp length-set (omega arith)
 
--- src/lib.rt:134:13
 add-scalars-5 : tie.Need-add-scalars-5
 add-scalars-5 c = search needs
 
--- src/lib.rt:134:5
 mul-scalars-6 : tie.Need-mul-scalars-6
 mul-scalars-6 c = search needs
 
--- src/lib.rt:134:5
 slice-write-scalars-6 : tie.Need-slice-write-scalars-6
 slice-write-scalars-6 c = simp length-set (omega arith)
 
--- src/lib.rt:135:13
 add-scalars-6 : tie.Need-add-scalars-6
 add-scalars-6 c = search needs
 
--- src/lib.rt:135:5
 mul-scalars-7 : tie.Need-mul-scalars-7
 mul-scalars-7 c = search needs
 
--- src/lib.rt:135:5
 slice-write-scalars-7 : tie.Need-slice-write-scalars-7
 slice-write-scalars-7 c = simp length-set (omega arith)
 
--- src/lib.rt:136:13
 add-scalars-7 : tie.Need-add-scalars-7
 add-scalars-7 c = search needs
 
--- src/lib.rt:136:5
 mul-scalars-8 : tie.Need-mul-scalars-8
 mul-scalars-8 c = search needs
 
--- src/lib.rt:136:5
 slice-write-scalars-8 : tie.Need-slice-write-scalars-8
 slice-write-scalars-8 c = simp length-set (omega arith)
 
--- src/lib.rt:124:1
 same-length : tie.Need-same-length
 same-length c = search needs
 
--- src/lib.rt:124:1
 returns : tie.Need-returns
 unfolding setScalars
 returns c = search needs

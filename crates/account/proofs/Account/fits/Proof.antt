@@ -1,16 +1,12 @@
-use native.Mathlib.Omega.{arith}
-use Rattle.account.specs.AccountLaws.{saturated-below}
-use Rattle.account.specs.Account.{fits}
 use borrow.Author.Needs.{needs}
 use Rattle.account.proofs.Account.fits.Statement.{statement}
 use Rattle.account.proofs.Account.fits.Tie as tie
 
-saturating-add-requires : tie.Need-saturating-add-requires
-saturating-add-requires c κs = search needs
+allows-requires : tie.Need-allows-requires
+allows-requires c κs = search needs
 
 returns : tie.Need-returns
-unfolding fits
-returns c = rw (c .before .saturating-add .ensures, saturated-below (c .before .before .args .bytes) (omega arith))
+returns c = rw (c .allows .ensures)
 
 pub fits-spec : {M : Type 1} → statement M
-fits-spec = tie.close (tie.spec saturating-add-requires returns)
+fits-spec = tie.close (tie.spec allows-requires returns)
