@@ -12,3 +12,4 @@ pub mod IdleLaws
 pub mod LocateLaws
 pub mod CallLaws
 pub mod SeatLaws
+pub mod OpenLaws

@@ -1,5 +1,6 @@
 // The heap: its record, its invariant, opening, the lookup of words, and the placing of new objects.
 ghost use mathlib.Core.Path.{_≡_};
+ghost use mathlib.Core.List.{[]};
 ghost use Prim.Native.Nat.{_+_, _*_, _≤_, _<_};
 ghost use lib.ListN.{length};
 ghost use Rattle.model.specs.Calls as Calls;
@@ -11,11 +12,14 @@ ghost use Rattle.slots.specs.FreeList.{takenSlot};
 ghost use Rattle.heap.specs.declared.Done.the-variants.{Accepted};
 ghost use Rattle.heap.specs.declared.Reading.the-variants.{Is};
 ghost use Rattle.heap.specs.Placing.{Roomy, Seatable, Seats, flagOf, judgedNew, newWord, placedPlain, placedRegion};
+ghost use Rattle.model.specs.Opening.{between, sizesFit};
+ghost use Rattle.heap.specs.Opens.{Opens, beside, cleared, newHeap, openingOf, roomFor, weightsFit};
 ghost use Rattle.heap.specs.Promise.{Performs, Reads};
 ghost use Rattle.heap.specs.Locating.{Locates, Ranks};
 use account::Account;
 use account::Charged;
 use cells::Top;
+use layout::Checked;
 use model::Weights;
 use slots::Found;
 use slots::Header;
@@ -87,6 +91,12 @@ pub struct Settled {
 pub struct Made {
     pub heap: Heap,
     pub answer: Reading,
+}
+
+// A heap opened, or 10.
+pub enum Opened {
+    Ready(Heap),
+    Refused(Refusal),
 }
 
 pub enum Kind {
@@ -517,4 +527,157 @@ pub fn make_room(
     h.top = t.cells;
     h.entries = t.entries;
     h
+}
+
+fn weight_fits(w: u64) -> bool
+    ensures { λ r. ⌜ r ≡ between 1 w 4096 ⌝ }
+{
+    if w < 1 {
+        return false;
+    }
+    w <= 4096
+}
+
+fn weights_fit(w: Weights) -> bool
+    ensures { λ r. ⌜ r ≡ weightsFit w ⌝ }
+{
+    if !weight_fits(w.slot) {
+        return false;
+    }
+    if !weight_fits(w.entry) {
+        return false;
+    }
+    if !weight_fits(w.iterator) {
+        return false;
+    }
+    if !weight_fits(w.coroutine) {
+        return false;
+    }
+    weight_fits(w.frame)
+}
+
+// Document 01's ranges: 1 to 65,536 slots, 0 to 1,048,576 cells, weights 1 to 4,096.
+fn sizes_fit(size: u64, cells: usize, weights: Weights) -> bool
+    ensures { λ r. ⌜ r ≡ sizesFit (openingOf size cells 0 weights []) ⌝ }
+{
+    if size < 1 {
+        return false;
+    }
+    if 65536 < size {
+        return false;
+    }
+    if 1048576 < cells {
+        return false;
+    }
+    weights_fit(weights)
+}
+
+// Whether lent buffers of these lengths are long enough for so many slots.
+fn has_room(
+    size: u64,
+    slots: usize,
+    scalars: usize,
+    list: usize,
+    directory: usize,
+    marks: usize,
+    order: usize,
+) -> bool
+    requires { ⌜ size ≤ 65536 ⌝ }
+    ensures { λ r. ⌜ r ≡ roomFor size slots scalars list directory marks order ⌝ }
+{
+    let n = size as usize;
+    if slots < n * 8 {
+        return false;
+    }
+    if scalars < n * 8 {
+        return false;
+    }
+    if list < n {
+        return false;
+    }
+    if directory < n * 2 {
+        return false;
+    }
+    if marks < n {
+        return false;
+    }
+    n * 2 <= order
+}
+
+fn clear_marks(marks: &mut [u8], n: usize)
+    requires { ⌜ n ≤ length (now marks) ⌝ }
+    ensures { λ r. ⌜ now (marks .exit) ≡ cleared (now (marks .entry)) n ⌝ }
+{
+    let mut i: usize = 0;
+    while i < n {
+        marks[i] = 0;
+        i += 1;
+    }
+}
+
+fn clear_order(order: &mut [u32], n: usize)
+    requires { ⌜ n ≤ length (now order) ⌝ }
+    ensures { λ r. ⌜ now (order .exit) ≡ cleared (now (order .entry)) n ⌝ }
+{
+    let mut i: usize = 0;
+    while i < n {
+        order[i] = 0;
+        i += 1;
+    }
+}
+
+// A heap of `size` slots over the lent buffers. The layout's sections go into the table; marks and
+// order are put to rest.
+pub fn open(
+    size: u64,
+    limit: u64,
+    weights: Weights,
+    layout: &[u8],
+    table: &mut [u64],
+    marks: &mut [u8],
+    order: &mut [u32],
+    slots: &[u64],
+    scalars: &[u64],
+    list: &[u64],
+    directory: &[u64],
+    cells: &[u64],
+) -> Opened
+    ensures { λ r. ⌜ Opens (openingOf size (length (now (cells .entry))) limit weights (now (layout .entry))) (state (newHeap size limit weights) (now (slots .entry)) (now (scalars .entry)) (now (list .entry)) (now (directory .entry)) (now (cells .entry))) (beside (now (table .entry)) (now (marks .entry)) (now (order .entry))) r (beside (now (table .exit)) (now (marks .exit)) (now (order .exit))) ⌝ }
+{
+    if !sizes_fit(size, cells.len(), weights) {
+        return Opened::Refused(Refusal::BadOpening);
+    }
+    if !has_room(
+        size,
+        slots.len(),
+        scalars.len(),
+        list.len(),
+        directory.len(),
+        marks.len(),
+        order.len(),
+    ) {
+        return Opened::Refused(Refusal::BadOpening);
+    }
+    match layout::read_layout(layout, table) {
+        Checked::Refused => Opened::Refused(Refusal::BadOpening),
+        Checked::Accepted => {
+            let n = size as usize;
+            clear_marks(marks, n);
+            clear_order(order, n * 2);
+            let account = Account::new(limit);
+            Opened::Ready(Heap {
+                account,
+                weights,
+                size,
+                fresh: 0,
+                free: 0,
+                top: 0,
+                entries: 0,
+                taken: 0,
+                present: 0,
+                collections: 0,
+                freed: 0,
+            })
+        }
+    }
 }
