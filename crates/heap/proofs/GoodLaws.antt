@@ -151,9 +151,9 @@ module _ (r : Raw) (x : Scalars) (lo : 65536 ≤ r .half) (hi : r .half < 131072
 -- ---- what a store may change
 
 module _ {r : Raw} {x : Scalars} (g : SlotGood r x) where
-  -- value and mode, but for a map's
-  pub good-value : (value mode : ℕ) → (r .kind ≡ 7 → ⊥) → SlotGood (rawWords r value mode (r .len)) x
-  good-value value mode h = record {
+  -- value, mode and cells, but for a map's
+  good-else : (value mode : ℕ) (c : List ℕ) → (r .kind ≡ 7 → ⊥) → SlotGood (rawCells (rawWords r value mode (r .len)) c) x
+  good-else value mode c h = record {
     half-low = g .half-low;
     half-high = g .half-high;
     kind = g .kind;
@@ -171,25 +171,11 @@ module _ {r : Raw} {x : Scalars} (g : SlotGood r x) where
     coroutine = g .coroutine;
   }
 
-  -- the cells, but for a map's
+  pub good-value : (value mode : ℕ) → (r .kind ≡ 7 → ⊥) → SlotGood (rawWords r value mode (r .len)) x
+  good-value value mode h = good-else value mode (r .cells) h
+
   pub good-cells : (c : List ℕ) → (r .kind ≡ 7 → ⊥) → SlotGood (rawCells r c) x
-  good-cells c h = record {
-    half-low = g .half-low;
-    half-high = g .half-high;
-    kind = g .kind;
-    empty = g .empty;
-    string = g .string;
-    integer = g .integer;
-    cell = g .cell;
-    error = g .error;
-    box = g .box;
-    array = g .array;
-    map = λ e. absurd (h e);
-    struct = g .struct;
-    function = g .function;
-    iterator = g .iterator;
-    coroutine = g .coroutine;
-  }
+  good-cells c h = good-else (r .value) (r .mode) c h
 
   -- an iterator's scalars
   pub good-step : (y : Scalars) → r .kind ≡ 10 → y .g < 4294967296 → SlotGood r y

@@ -13,3 +13,4 @@ pub mod LocateLaws
 pub mod CallLaws
 pub mod SeatLaws
 pub mod OpenLaws
+pub mod SweepLaws

@@ -70,7 +70,7 @@ module _ (l : Layout) {b a : State} {w i : ℕ} {p : Content → Content} {q : C
       record {
         shows = rw (t, x, r);
         next = touched-model o (s .touched) p q (s .content) (s .room) l ∙ rw (t, account, c);
-        good = touched-good g (o .within) (o .present) (s .touched) (s .slot-good);
+        good = touched-good g (o .within) (s .touched) (s .slot-good);
         kept = λ z. absurd (z refl);
       }
 
