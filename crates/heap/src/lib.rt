@@ -375,7 +375,7 @@ pub fn judge_new(heap: Heap, total: u64, bytes: u64, size: u64) -> Done
     ensures { λ r. ⌜ r ≡ judgedNew heap total bytes size ⌝ }
 {
     let account = heap.account;
-    if !account.fits(bytes) {
+    if !account.allows(bytes) {
         return Done::Refused(Refusal::OverBudget);
     }
     if heap.free == 0 {
