@@ -1,0 +1,4 @@
+pub mod ReadingLaws
+pub mod RegionLaws
+pub mod MapLaws
+pub mod IteratorLaws
