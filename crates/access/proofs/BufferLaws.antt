@@ -62,7 +62,7 @@ module _ {t : State} {w : ℕ} {r : Located} (bs : List ℕ) (g : Good t) (d : L
         (first-passes (unless (leb (length (bytes (modelOf l t) w)) (length bs)) 8 ∷ []) (target-met l g (located-at g d e) says-string)
         ∙ first-refuses [] No.TooShort (rw (leb-no (length (bytes (modelOf l t) w)) (length bs) (omega (arith, length-is g d e p l)))))
 
-    -- "in the lent list's first places; the others stay"
+    -- the string's bytes in the buffer's first places; the others stay
     pub string-read : {after : List ℕ} → h .len ≤ length bs → after ≡ stringBytes (take (stringCells (h .len)) (drop (h .start) (t .cells))) (h .len) ++ drop (h .len) bs →
         Reads (Calls.read-string w bs) t (lentReading (Read.Is (h .len)) after)
     unfolding terms effect lentReading unless written

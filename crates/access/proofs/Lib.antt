@@ -3,3 +3,6 @@ pub mod ReadingLaws
 pub mod FrameLaws
 pub mod ReadCalls
 pub mod BufferLaws
+pub mod StoringLaws
+pub mod RuleLaws
+pub mod StoreCalls

@@ -6,21 +6,22 @@ use mathlib.Core.List.{List}
 use native.Mathlib.Omega.{arith}
 use borrow.Author.Tests.{eqb-true}
 use lib.Dec.{eqb}
-use lib.ListN.{getD, length}
+use lib.ListN.{getD, length, set}
 use Rattle.slots.specs.Header.{headerAt}
 use Rattle.slots.specs.Lookup.{Finds, hitFirst}
 use Rattle.slots.specs.declared.Header.{Header}
 use Rattle.slots.specs.declared.Found.{Found}
 use Rattle.slots.specs.declared.Found.the-variants as F
+use Rattle.history.proofs.Facts.{ltb-no, ltb-yes}
 use Rattle.heap.specs.Locating.{Locates, locatedBy, locatedIn, pick}
 use Rattle.heap.specs.declared.Located.{Located}
 use Rattle.heap.specs.declared.Located.the-variants as L
 use Rattle.heap.specs.declared.Refusal.{Refusal}
 use Rattle.heap.specs.declared.Refusal.the-variants.{OtherKind, Outside}
+use Rattle.heap.specs.declared.Done.the-variants as Do
 use Rattle.heap.specs.declared.Reading.the-variants as Read
-use Rattle.history.proofs.Facts.{ltb-no, ltb-yes}
 use Rattle.heap.proofs.LocateLaws.{found-within}
-use Rattle.access.specs.Objects.{OnObject, ReadsWord, WordsFit, atObject, wordAt}
+use Rattle.access.specs.Objects.{OnObject, ReadsWord, StoresWord, WordsFit, atObject, wordAt, writeWord}
 
 module _ {A : Type 0} {s : List ℕ} {n w kind : ℕ} {r : Located} {none : Refusal → A} {here : ℕ → A} (d : Locates s n w kind r) where
   pub no-object : {q : Refusal} → r ≡ L.Refused q → OnObject s n w kind none here (none q)
@@ -93,3 +94,11 @@ module _ {s c : List ℕ} {n w kind : ℕ} {r : Located} (f : WordsFit s c n kin
   pub word-outside : {i k : ℕ} {h : Header} → r ≡ L.At i → h ≡ headerAt s i → h .len ≤ k → ReadsWord s c n w kind k (Read.Refused Outside)
   unfolding wordAt
   word-outside {i} {k} {h} e p l = object-at d e (rw (← p, ltb-no k (h .len) l))
+
+  pub word-stored : (v : ℕ) {i k : ℕ} {h : Header} → r ≡ L.At i → h ≡ headerAt s i → k < h .len → StoresWord s c n w kind k v Do.Accepted (set c (h .start + k) v)
+  unfolding writeWord
+  word-stored v {i} {k} {h} e p l = object-at d e (rw (← p, ltb-yes k (h .len) l))
+
+  pub word-kept : (v : ℕ) {i k : ℕ} {h : Header} → r ≡ L.At i → h ≡ headerAt s i → h .len ≤ k → StoresWord s c n w kind k v (Do.Refused Outside) c
+  unfolding writeWord
+  word-kept v {i} {k} {h} e p l = object-at d e (rw (← p, ltb-no k (h .len) l))

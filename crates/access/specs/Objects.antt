@@ -4,7 +4,7 @@ use mathlib.Core.Path.{_≡_}
 use mathlib.Core.Bool.{cond}
 use mathlib.Core.List.{List}
 use lib.Dec.{ltb}
-use lib.ListN.{getD, length}
+use lib.ListN.{getD, length, set}
 use Rattle.slots.specs.Header.{headerAt}
 use Rattle.slots.specs.declared.Header.{Header}
 use Rattle.model.specs.declared.Frame.{Frame}
@@ -13,6 +13,8 @@ use Rattle.heap.specs.declared.Located.{Located}
 use Rattle.heap.specs.declared.Located.the-variants as L
 use Rattle.heap.specs.declared.Refusal.{Refusal}
 use Rattle.heap.specs.declared.Refusal.the-variants.{Outside}
+use Rattle.heap.specs.declared.Done.{Done}
+use Rattle.heap.specs.declared.Done.the-variants as Do
 use Rattle.heap.specs.declared.Reading.{Reading}
 use Rattle.heap.specs.declared.Reading.the-variants as Read
 
@@ -51,3 +53,28 @@ ReadsWord s c n w kind k r = OnObject s n w kind Read.Refused (λ i. wordAt (hea
 -- the frame in the four cells from p on
 abbrev pub frameOf : List ℕ → ℕ → Frame
 frameOf c p = record { function = getD c p 0; counter = getD c (p + 1) 0; base = getD c (p + 2) 0; closure = getD c (p + 3) 0 }
+
+-- ---- stores
+
+-- the answer, and the buffer afterwards
+pub record Write : Type 0 where
+  pub done : Done
+  pub words : List ℕ
+
+abbrev pub write : Done → List ℕ → Write
+write r ws = record { done = r; words = ws }
+
+-- the value in the header
+abbrev pub StoresValue : List ℕ → ℕ → ℕ → ℕ → ℕ → Done → List ℕ → Type 0
+StoresValue s n w kind v r s′ = OnObject s n w kind (λ q. write (Do.Refused q) s) (λ i. write Do.Accepted (set s (i * 8 + 2) v)) (write r s′)
+
+-- word k of a coroutine's scalars
+abbrev pub StoresScalar : List ℕ → List ℕ → ℕ → ℕ → ℕ → ℕ → Done → List ℕ → Type 0
+StoresScalar s x n w k v r x′ = OnObject s n w 11 (λ q. write (Do.Refused q) x) (λ i. write Do.Accepted (set x (i * 8 + k) v)) (write r x′)
+
+-- word k of the object's own
+unfoldable pub writeWord : Header → List ℕ → ℕ → ℕ → Write
+writeWord h c k v = cond (ltb k (h .len)) (write Do.Accepted (set c (h .start + k) v)) (write (Do.Refused Outside) c)
+
+abbrev pub StoresWord : List ℕ → List ℕ → ℕ → ℕ → ℕ → ℕ → ℕ → Done → List ℕ → Type 0
+StoresWord s c n w kind k v r c′ = OnObject s n w kind (λ q. write (Do.Refused q) c) (λ i. writeWord (headerAt s i) c k v) (write r c′)

@@ -4,12 +4,13 @@ ghost use Prim.Native.Nat.{_+_, _*_, _≤_, _<_};
 ghost use lib.ListN.{length};
 ghost use Rattle.model.specs.Calls as Calls;
 ghost use Rattle.model.specs.Rules as Parts;
-ghost use Rattle.heap.specs.Answers.{readingIs, signedIs, testIs};
+ghost use Rattle.heap.specs.Answers.{readingIs, signedIs, testIs, doneIs};
 ghost use Rattle.access.specs.Answers.{lentReading, frameIs};
-ghost use Rattle.access.specs.Objects.{ReadsHeader, ReadsScalar, ReadsWord, WordsFit, frameOf};
+ghost use Rattle.access.specs.Objects.{ReadsHeader, ReadsScalar, ReadsWord, StoresScalar, StoresValue, StoresWord, WordsFit, frameOf};
 ghost use Rattle.heap.specs.State.{state};
 ghost use Rattle.heap.specs.Good.{Good};
-ghost use Rattle.heap.specs.Promise.{Reads};
+ghost use Rattle.heap.specs.Promise.{Performs, Reads};
+use heap::Done;
 use heap::Heap;
 use heap::Located;
 use heap::Reading;
@@ -132,6 +133,61 @@ fn read_word(slots: &[u64], cells: &[u64], fresh: u64, w: u64, kind: u64, i: u64
                 return Reading::Is(cells[p]);
             }
             Reading::Refused(Refusal::Outside)
+        }
+    }
+}
+
+// A new value in the header of an object of this kind.
+fn store_value(slots: &mut [u64], fresh: u64, w: u64, kind: u64, v: u64) -> Done
+    requires { ⌜ (fresh ≤ 65536) × (fresh * 8 ≤ length (now slots)) ⌝ }
+    ensures { λ r. ⌜ StoresValue (now (slots .entry)) fresh w kind v r (now (slots .exit)) ⌝ }
+{
+    match heap::locate(slots, fresh, w, kind) {
+        Located::Refused(q) => Done::Refused(q),
+        Located::At(i) => {
+            slots::set_value(slots, i, v);
+            Done::Accepted
+        }
+    }
+}
+
+// Word k of a coroutine's scalars.
+fn store_scalar(slots: &[u64], scalars: &mut [u64], fresh: u64, w: u64, k: usize, v: u64) -> Done
+    requires { ⌜ (fresh ≤ 65536) × (fresh * 8 ≤ length (now slots)) × (fresh * 8 ≤ length (now scalars)) × (k < 8) ⌝ }
+    ensures { λ r. ⌜ StoresScalar (now (slots .entry)) (now (scalars .entry)) fresh w k v r (now (scalars .exit)) ⌝ }
+{
+    match heap::locate(slots, fresh, w, COROUTINE) {
+        Located::Refused(q) => Done::Refused(q),
+        Located::At(i) => {
+            scalars[i * 8 + k] = v;
+            Done::Accepted
+        }
+    }
+}
+
+// Word i of an object's cells: fields, captures, registers.
+fn store_word(
+    slots: &[u64],
+    cells: &mut [u64],
+    fresh: u64,
+    w: u64,
+    kind: u64,
+    i: u64,
+    v: u64,
+) -> Done
+    requires { ⌜ WordsFit (now slots) (now cells) fresh kind ⌝ }
+    ensures { λ r. ⌜ StoresWord (now (slots .entry)) (now (cells .entry)) fresh w kind i v r (now (cells .exit)) ⌝ }
+{
+    match heap::locate(slots, fresh, w, kind) {
+        Located::Refused(q) => Done::Refused(q),
+        Located::At(at) => {
+            let h = slots::read_header(slots, at);
+            if i < h.len {
+                let p = (h.start + i) as usize;
+                cells[p] = v;
+                return Done::Accepted;
+            }
+            Done::Refused(Refusal::Outside)
         }
     }
 }
@@ -642,4 +698,209 @@ pub fn read_register(
     ensures { λ r. ⌜ Reads (Calls.read-register w i) (state heap (now (slots .entry)) (now (scalars .entry)) (now (list .entry)) (now (directory .entry)) (now (cells .entry))) (readingIs r) ⌝ }
 {
     read_word(slots, cells, heap.fresh, w, COROUTINE, i)
+}
+
+pub fn store_cell(
+    heap: Heap,
+    slots: &mut [u64],
+    scalars: &[u64],
+    list: &[u64],
+    directory: &[u64],
+    cells: &[u64],
+    w: u64,
+    v: u64,
+) -> Done
+    requires { ⌜ Good (state heap (now slots) (now scalars) (now list) (now directory) (now cells)) ⌝ }
+    ensures { λ r. ⌜ Performs (Calls.store-cell w v) (state heap (now (slots .entry)) (now (scalars .entry)) (now (list .entry)) (now (directory .entry)) (now (cells .entry))) (doneIs r) (state heap (now (slots .exit)) (now (scalars .entry)) (now (list .entry)) (now (directory .entry)) (now (cells .entry))) ⌝ }
+{
+    store_value(slots, heap.fresh, w, CELL, v)
+}
+
+pub fn store_box(
+    heap: Heap,
+    slots: &mut [u64],
+    scalars: &[u64],
+    list: &[u64],
+    directory: &[u64],
+    cells: &[u64],
+    w: u64,
+    v: u64,
+) -> Done
+    requires { ⌜ Good (state heap (now slots) (now scalars) (now list) (now directory) (now cells)) ⌝ }
+    ensures { λ r. ⌜ Performs (Calls.store-box w v) (state heap (now (slots .entry)) (now (scalars .entry)) (now (list .entry)) (now (directory .entry)) (now (cells .entry))) (doneIs r) (state heap (now (slots .exit)) (now (scalars .entry)) (now (list .entry)) (now (directory .entry)) (now (cells .entry))) ⌝ }
+{
+    store_value(slots, heap.fresh, w, BOX, v)
+}
+
+pub fn store_field(
+    heap: Heap,
+    slots: &[u64],
+    scalars: &[u64],
+    list: &[u64],
+    directory: &[u64],
+    cells: &mut [u64],
+    w: u64,
+    i: u64,
+    v: u64,
+) -> Done
+    requires { ⌜ Good (state heap (now slots) (now scalars) (now list) (now directory) (now cells)) ⌝ }
+    ensures { λ r. ⌜ Performs (Calls.store-field w i v) (state heap (now (slots .entry)) (now (scalars .entry)) (now (list .entry)) (now (directory .entry)) (now (cells .entry))) (doneIs r) (state heap (now (slots .entry)) (now (scalars .entry)) (now (list .entry)) (now (directory .entry)) (now (cells .exit))) ⌝ }
+{
+    store_word(slots, cells, heap.fresh, w, STRUCT, i, v)
+}
+
+pub fn store_capture(
+    heap: Heap,
+    slots: &[u64],
+    scalars: &[u64],
+    list: &[u64],
+    directory: &[u64],
+    cells: &mut [u64],
+    w: u64,
+    i: u64,
+    v: u64,
+) -> Done
+    requires { ⌜ Good (state heap (now slots) (now scalars) (now list) (now directory) (now cells)) ⌝ }
+    ensures { λ r. ⌜ Performs (Calls.store-capture w i v) (state heap (now (slots .entry)) (now (scalars .entry)) (now (list .entry)) (now (directory .entry)) (now (cells .entry))) (doneIs r) (state heap (now (slots .entry)) (now (scalars .entry)) (now (list .entry)) (now (directory .entry)) (now (cells .exit))) ⌝ }
+{
+    store_word(slots, cells, heap.fresh, w, FUNCTION, i, v)
+}
+
+pub fn store_register(
+    heap: Heap,
+    slots: &[u64],
+    scalars: &[u64],
+    list: &[u64],
+    directory: &[u64],
+    cells: &mut [u64],
+    w: u64,
+    i: u64,
+    v: u64,
+) -> Done
+    requires { ⌜ Good (state heap (now slots) (now scalars) (now list) (now directory) (now cells)) ⌝ }
+    ensures { λ r. ⌜ Performs (Calls.store-register w i v) (state heap (now (slots .entry)) (now (scalars .entry)) (now (list .entry)) (now (directory .entry)) (now (cells .entry))) (doneIs r) (state heap (now (slots .entry)) (now (scalars .entry)) (now (list .entry)) (now (directory .entry)) (now (cells .exit))) ⌝ }
+{
+    store_word(slots, cells, heap.fresh, w, COROUTINE, i, v)
+}
+
+pub fn store_payload(
+    heap: Heap,
+    slots: &[u64],
+    scalars: &mut [u64],
+    list: &[u64],
+    directory: &[u64],
+    cells: &[u64],
+    w: u64,
+    v: u64,
+) -> Done
+    requires { ⌜ Good (state heap (now slots) (now scalars) (now list) (now directory) (now cells)) ⌝ }
+    ensures { λ r. ⌜ Performs (Calls.store-part w Parts.payload v) (state heap (now (slots .entry)) (now (scalars .entry)) (now (list .entry)) (now (directory .entry)) (now (cells .entry))) (doneIs r) (state heap (now (slots .entry)) (now (scalars .exit)) (now (list .entry)) (now (directory .entry)) (now (cells .entry))) ⌝ }
+{
+    store_scalar(slots, scalars, heap.fresh, w, PAYLOAD, v)
+}
+
+pub fn store_key(
+    heap: Heap,
+    slots: &[u64],
+    scalars: &mut [u64],
+    list: &[u64],
+    directory: &[u64],
+    cells: &[u64],
+    w: u64,
+    v: u64,
+) -> Done
+    requires { ⌜ Good (state heap (now slots) (now scalars) (now list) (now directory) (now cells)) ⌝ }
+    ensures { λ r. ⌜ Performs (Calls.store-part w Parts.key v) (state heap (now (slots .entry)) (now (scalars .entry)) (now (list .entry)) (now (directory .entry)) (now (cells .entry))) (doneIs r) (state heap (now (slots .entry)) (now (scalars .exit)) (now (list .entry)) (now (directory .entry)) (now (cells .entry))) ⌝ }
+{
+    store_scalar(slots, scalars, heap.fresh, w, KEY, v)
+}
+
+pub fn store_result(
+    heap: Heap,
+    slots: &[u64],
+    scalars: &mut [u64],
+    list: &[u64],
+    directory: &[u64],
+    cells: &[u64],
+    w: u64,
+    v: u64,
+) -> Done
+    requires { ⌜ Good (state heap (now slots) (now scalars) (now list) (now directory) (now cells)) ⌝ }
+    ensures { λ r. ⌜ Performs (Calls.store-part w Parts.result v) (state heap (now (slots .entry)) (now (scalars .entry)) (now (list .entry)) (now (directory .entry)) (now (cells .entry))) (doneIs r) (state heap (now (slots .entry)) (now (scalars .exit)) (now (list .entry)) (now (directory .entry)) (now (cells .entry))) ⌝ }
+{
+    store_scalar(slots, scalars, heap.fresh, w, RESULT, v)
+}
+
+pub fn store_signal(
+    heap: Heap,
+    slots: &[u64],
+    scalars: &mut [u64],
+    list: &[u64],
+    directory: &[u64],
+    cells: &[u64],
+    w: u64,
+    v: u64,
+) -> Done
+    requires { ⌜ Good (state heap (now slots) (now scalars) (now list) (now directory) (now cells)) ⌝ }
+    ensures { λ r. ⌜ Performs (Calls.store-part w Parts.signal v) (state heap (now (slots .entry)) (now (scalars .entry)) (now (list .entry)) (now (directory .entry)) (now (cells .entry))) (doneIs r) (state heap (now (slots .entry)) (now (scalars .exit)) (now (list .entry)) (now (directory .entry)) (now (cells .entry))) ⌝ }
+{
+    store_scalar(slots, scalars, heap.fresh, w, SIGNAL, v)
+}
+
+pub fn set_state(
+    heap: Heap,
+    slots: &mut [u64],
+    scalars: &[u64],
+    list: &[u64],
+    directory: &[u64],
+    cells: &[u64],
+    w: u64,
+    s: u64,
+) -> Done
+    requires { ⌜ Good (state heap (now slots) (now scalars) (now list) (now directory) (now cells)) ⌝ }
+    ensures { λ r. ⌜ Performs (Calls.set-state w s) (state heap (now (slots .entry)) (now (scalars .entry)) (now (list .entry)) (now (directory .entry)) (now (cells .entry))) (doneIs r) (state heap (now (slots .exit)) (now (scalars .entry)) (now (list .entry)) (now (directory .entry)) (now (cells .entry))) ⌝ }
+{
+    if 4 < s {
+        return Done::Refused(Refusal::BadType);
+    }
+    match heap::locate(slots, heap.fresh, w, COROUTINE) {
+        Located::Refused(q) => Done::Refused(q),
+        Located::At(i) => {
+            slots::set_mode(slots, i, s);
+            Done::Accepted
+        }
+    }
+}
+
+// Outside the length nothing changes; a charge of zero bytes is made all the same.
+pub fn store_item(
+    heap: Heap,
+    slots: &[u64],
+    scalars: &[u64],
+    list: &[u64],
+    directory: &[u64],
+    cells: &mut [u64],
+    w: u64,
+    i: u64,
+    v: u64,
+) -> Done
+    requires { ⌜ Good (state heap (now slots) (now scalars) (now list) (now directory) (now cells)) ⌝ }
+    ensures { λ r. ⌜ Performs (Calls.store-item w i v) (state heap (now (slots .entry)) (now (scalars .entry)) (now (list .entry)) (now (directory .entry)) (now (cells .entry))) (doneIs r) (state heap (now (slots .entry)) (now (scalars .entry)) (now (list .entry)) (now (directory .entry)) (now (cells .exit))) ⌝ }
+{
+    match heap::locate(slots, heap.fresh, w, ARRAY) {
+        Located::Refused(q) => Done::Refused(q),
+        Located::At(at) => {
+            let account = heap.account;
+            if !account.allows(0) {
+                return Done::Refused(Refusal::OverBudget);
+            }
+            let h = slots::read_header(slots, at);
+            if h.len <= i {
+                return Done::Accepted;
+            }
+            let p = (h.start + i) as usize;
+            cells[p] = v;
+            Done::Accepted
+        }
+    }
 }

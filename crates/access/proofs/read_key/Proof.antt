@@ -1,6 +1,6 @@
 -- `access::read_key` meets its contract. Assumes nothing.
-use Rattle.access.proofs.ReadCalls.{part-read}
 use Rattle.model.specs.Rules.{key}
+use Rattle.access.proofs.ReadCalls.{part-read}
 use borrow.Author.Needs.{needs}
 use Rattle.access.proofs.read_key.Statement.{statement}
 use Rattle.access.proofs.read_key.Tie as tie

@@ -1,6 +1,6 @@
 -- `access::read_payload` meets its contract. Assumes nothing.
-use Rattle.access.proofs.ReadCalls.{part-read}
 use Rattle.model.specs.Rules.{payload}
+use Rattle.access.proofs.ReadCalls.{part-read}
 use borrow.Author.Needs.{needs}
 use Rattle.access.proofs.read_payload.Statement.{statement}
 use Rattle.access.proofs.read_payload.Tie as tie

@@ -1,6 +1,6 @@
 -- `access::read_result` meets its contract. Assumes nothing.
-use Rattle.access.proofs.ReadCalls.{part-read}
 use Rattle.model.specs.Rules.{result}
+use Rattle.access.proofs.ReadCalls.{part-read}
 use borrow.Author.Needs.{needs}
 use Rattle.access.proofs.read_result.Statement.{statement}
 use Rattle.access.proofs.read_result.Tie as tie

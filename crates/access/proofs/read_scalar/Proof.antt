@@ -1,6 +1,6 @@
 -- `access::read_scalar` meets its contract. Assumes nothing.
-use native.Mathlib.Omega.{arith}
 use mathlib.Core.Path.{refl}
+use native.Mathlib.Omega.{arith}
 use Rattle.access.proofs.ObjectLaws.{located-here, no-object, object-at}
 use borrow.Author.Needs.{needs}
 use Rattle.access.proofs.read_scalar.Statement.{statement}

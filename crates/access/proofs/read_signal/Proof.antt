@@ -1,6 +1,6 @@
 -- `access::read_signal` meets its contract. Assumes nothing.
-use Rattle.access.proofs.ReadCalls.{part-read}
 use Rattle.model.specs.Rules.{signal}
+use Rattle.access.proofs.ReadCalls.{part-read}
 use borrow.Author.Needs.{needs}
 use Rattle.access.proofs.read_signal.Statement.{statement}
 use Rattle.access.proofs.read_signal.Tie as tie

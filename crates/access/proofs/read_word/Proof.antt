@@ -1,6 +1,6 @@
 -- `access::read_word` meets its contract. Assumes nothing.
-use native.Mathlib.Omega.{arith}
 use mathlib.Core.Path.{refl}
+use native.Mathlib.Omega.{arith}
 use Rattle.access.proofs.ObjectLaws.{no-object, word-inside, word-outside, words-header, words-place}
 use borrow.Author.Needs.{needs}
 use Rattle.access.proofs.read_word.Statement.{statement}
