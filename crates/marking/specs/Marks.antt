@@ -3,7 +3,7 @@ use mathlib.Core.Path.{_≡_}
 use mathlib.Core.Logic.{_≢_}
 use mathlib.Core.List.{List, _++_, List·Memᴰ}
 use Prim.Native.Nat.{ℕ, _+_, _*_, _≤_, _<_}
-use lib.ListN.{length, take, drop}
+use lib.ListN.{length, take, drop, replicate}
 use Rattle.slots.specs.Header.{headerAt, scalarsAt}
 use Rattle.cells.specs.Regions.{rawAt}
 use Rattle.heap.specs.Good.{SlotGood}
@@ -36,6 +36,17 @@ pub record Present (s : List ℕ) (n i : ℕ) : Type 0 where
 pub record Listing (s : List ℕ) (n : ℕ) (m o : List ℕ) (k : ℕ) : Type 0 where
   pub all : (i : ℕ) → Marked m i → List·Memᴰ i (take k o)
   pub each : (i : ℕ) → List·Memᴰ i (take k o) → Present s n i
+
+-- what it takes to undo the marks by the order's first k places
+pub record Tracked (m o : List ℕ) (k : ℕ) : Type 0 where
+  pub room : k ≤ length o
+  pub all : (i : ℕ) → Marked m i → List·Memᴰ i (take k o)
+  pub inside : (i : ℕ) → List·Memᴰ i (take k o) → i < length m
+
+-- no slot is marked, and the places that were taken hold 0
+pub record Unmarked (m o : List ℕ) (k : ℕ) (m′ o′ : List ℕ) : Type 0 where
+  pub marks : m′ ≡ replicate (length m) 0
+  pub order : o′ ≡ replicate k 0 ++ drop k o
 
 -- the marks m′ and the order o′, of which r places are taken, where k were: the other places are as they were
 pub record Scanned (s : List ℕ) (n : ℕ) (o : List ℕ) (k : ℕ) (m′ o′ : List ℕ) (r : ℕ) : Type 0 where
