@@ -111,7 +111,7 @@ module _ {t : State} {w : ℕ} (g : Good t) where
 
 -- ---- an entry read
 
-entry-inside : (pos : ℕ) (s : Maps.Store) {e : Maps.Entry} → some e ≡ Maps.entryRead pos s → (pos < Maps.places s) × (Maps.entryOf s pos ≡ e)
+pub entry-inside : (pos : ℕ) (s : Maps.Store) {e : Maps.Entry} → some e ≡ Maps.entryRead pos s → (pos < Maps.places s) × (Maps.entryOf s pos ≡ e)
 unfolding Maps.entryRead
 entry-inside pos s {e} h = go (ltb pos (Maps.places s)) refl h
   where
@@ -119,7 +119,7 @@ entry-inside pos s {e} h = go (ltb pos (Maps.places s)) refl h
     go true z h = (ltb-true pos (Maps.places s) z, (cc))
     go false z h = absurd (let y : _≡_ {A = ℕ} 0 1 = cc in omega arith)
 
-entry-beyond : (pos : ℕ) (s : Maps.Store) → none ≡ Maps.entryRead pos s → Maps.places s ≤ pos
+pub entry-beyond : (pos : ℕ) (s : Maps.Store) → none ≡ Maps.entryRead pos s → Maps.places s ≤ pos
 unfolding Maps.entryRead
 entry-beyond pos s h = go (ltb pos (Maps.places s)) refl h
   where
