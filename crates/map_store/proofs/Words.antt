@@ -1,11 +1,11 @@
 -- The arithmetic of peek and poke: a place is a lane of 32 bits in its cell.
-use mathlib.Core.Path.{_≡_, refl, sym, ap, _∙_}
+use mathlib.Core.Path.{_≡_, sym, ap, _∙_}
 use mathlib.Core.Logic.{_≢_}
 use mathlib.Core.List.{List}
-use Prim.Native.Nat.{ℕ, zero, suc, _+_, _-_, _*_, _/_, _%_, _^_, _≤_, _<_}
+use Prim.Native.Nat.{ℕ, _+_, _-_, _*_, _/_, _%_, _^_, _≤_, _<_}
 use native.Mathlib.Decide.{ℕ-discrete}
 use native.Mathlib.Omega.{arith}
-use lib.ListN.{length, getD, set, take, drop}
+use lib.ListN.{length, getD, set, drop}
 use lib.Seq.{getD-take, getD-drop}
 use borrow.Rule.Slice.PartMut.{midOf, putMid, mid-len, set-mid-at}
 use Rattle.map_store.specs.Half.{half, put, half-low, half-high, put-low, put-high}

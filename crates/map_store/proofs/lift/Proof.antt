@@ -1,12 +1,8 @@
 use native.Mathlib.Omega.{arith}
-use Prim.Native.Nat.{ℕ, _+_, _*_, _-_, _^_, _≤_, _<_}
-use lib.ListN.{length}
 use Rattle.map_store.proofs.Steps.{Lifting, lift-start, lift-step, lift-end}
 -- `lift`. The invariant: what is above place j has moved, the rest stands as it was. Assumes nothing.
 use Rattle.map_store.proofs.lift.Statement.{statement}
 use Rattle.map_store.proofs.lift.Tie as tie
-use Rattle.map_store.proofs.lift.Reads as reads
-use Rattle.map_store.proofs.lift.Lts as lts
 
 abbrev Inv-loop : tie.InvT-loop
 Inv-loop cells₀ a b w j₀ cells j = Lifting cells₀ cells a b w j
@@ -14,51 +10,39 @@ Inv-loop cells₀ a b w j₀ cells j = Lifting cells₀ cells a b w j
 abbrev μ-loop : tie.MeasureT-loop
 μ-loop cells₀ a b w j₀ cells j = j
 
--- src/lib.rt:228:5
 loop-holds : tie.Need-loop-holds Inv-loop μ-loop
 loop-holds c = lift-start _ _ _ _
 
--- src/lib.rt:229:9
 sub-j : tie.Need-sub-j Inv-loop μ-loop
 sub-j c = omega (arith, (c .loop-test .taken))
 
--- src/lib.rt:230:23
 add-x : tie.Need-add-x Inv-loop μ-loop
 add-x c = omega (arith, (c .before .before .pre), (c .before .before .good), (c .before .loop .inv) .within)
 
--- src/lib.rt:230:17
 mul-x : tie.Need-mul-x Inv-loop μ-loop
 mul-x c = omega (arith, (c .before .before .pre), (c .before .before .good), (c .before .loop .inv) .within, (c .loop-test .taken))
 
--- src/lib.rt:230:17
 slice-read-x : tie.Need-slice-read-x Inv-loop μ-loop
 slice-read-x c = omega (arith, (c .before .before .before .pre), (c .before .before .loop .inv) .within, (c .before .before .loop .inv) .same-length, (c .before .loop-test .taken))
 
--- src/lib.rt:231:15
 add-cells : tie.Need-add-cells Inv-loop μ-loop
 add-cells c = omega (arith, (c .before .before .before .pre), (c .before .before .before .good), (c .before .before .loop .inv) .within)
 
--- src/lib.rt:231:9
 mul-cells : tie.Need-mul-cells Inv-loop μ-loop
 mul-cells c = omega (arith, (c .before .before .before .pre), (c .before .before .before .good), (c .before .before .loop .inv) .within, (c .before .loop-test .taken))
 
--- src/lib.rt:231:9
 slice-write-cells : tie.Need-slice-write-cells Inv-loop μ-loop
 slice-write-cells c = omega (arith, (c .before .before .before .pre), (c .before .before .loop .inv) .within, (c .before .before .loop .inv) .same-length, (c .before .loop-test .taken))
 
--- src/lib.rt:228:5
 loop-less : tie.Need-loop-less Inv-loop μ-loop
 loop-less c = omega (arith, (c .before .loop-test .taken))
 
--- src/lib.rt:228:5
 loop-again : tie.Need-loop-again Inv-loop μ-loop
 loop-again c = lift-step _ _ _ _ _ _ ((c .before .before .before .pre .0)) ((c .before .before .before .pre .1)) ((c .before .loop-test .taken)) ((c .before .before .loop .inv))
 
--- src/lib.rt:223:1
 same-length : tie.Need-same-length Inv-loop μ-loop
 same-length c = (c .before .loop .inv) .same-length
 
--- src/lib.rt:223:1
 returns : tie.Need-returns Inv-loop μ-loop
 returns c = lift-end _ _ _ _ _ _ ((c .before .loop .inv)) ((c .loop-test .left))
 

@@ -2,10 +2,10 @@
 use mathlib.Core.Path.{_≡_, refl, sym, ap, _∙_}
 use mathlib.Core.Logic.{_≢_, ⊎-elim}
 use mathlib.Core.List.{List}
-use Prim.Native.Nat.{ℕ, _+_, _*_, _-_, _%_, _^_, _≤_, _<_}
+use Prim.Native.Nat.{ℕ, _+_, _*_, _-_, _%_, _^_, _<_}
 use native.Mathlib.Omega.{arith}
 use borrow.Author.Needs.{needs}
-use lib.ListN.{length, getD}
+use lib.ListN.{length}
 use Rattle.probing.specs.Cyclic.{dist}
 use Rattle.probing.specs.Mask.{pow-positive}
 use Rattle.probing.specs.Probing.{EMPTY}
@@ -17,11 +17,6 @@ use Rattle.map_store.specs.Entries.{lookup-first, lookup-none}
 use Rattle.map_store.proofs.Maps.{cell-in, seat-live, rest-own, rest-other}
 use Rattle.map_store.proofs.seek.Statement.{statement}
 use Rattle.map_store.proofs.seek.Tie as tie
-use Rattle.map_store.proofs.seek.Reads as reads
-use Rattle.map_store.proofs.seek.Lts as lts
-use Rattle.map_store.proofs.mark.Reads as mark-reads
-use Rattle.map_store.proofs.peek.Reads as peek-reads
-use Rattle.std.proofs.num.wrapping_sub_u64.Reads as wrapping-sub-u64-reads
 
 abbrev Passed : List ℕ → ℕ → ℕ → ℕ → ℕ → Type 0
 Passed cells ib hash key t = (held cells ib t ≢ EMPTY) × (Match cells hash key (held cells ib t) → ⊥)

@@ -1,51 +1,36 @@
 use native.Mathlib.Omega.{arith}
-use Prim.Native.Nat.{ℕ, _+_, _*_, _-_, _≤_, _<_}
 use Rattle.map_store.proofs.Removals.{some-live, live-most, left-able, taken-few, taken-less, taken-tight}
 use borrow.Author.Needs.{needs}
 use Rattle.map_store.proofs.take.Statement.{statement}
 use Rattle.map_store.proofs.take.Tie as tie
-use Rattle.map_store.proofs.take.Reads as reads
-use Rattle.map_store.proofs.take.Lts as lts
-use Rattle.map_store.proofs.tighten.Reads as tighten-reads
-use Rattle.map_store.proofs.unplace.Reads as unplace-reads
 
--- src/lib.rt:672:5
 unplace-requires : tie.Need-unplace-requires
 unplace-requires c κs = search needs
 
--- src/lib.rt:673:16
 sub-left : tie.Need-sub-left
 sub-left c = some-live _ _ _ _ _ _ _ ((c .before .before .before .before .before .pre .0) .0) ((c .before .before .before .before .before .pre .0) .1) ((c .before .before .before .before .before .pre .0) .2) ((c .before .before .before .before .before .pre .1))
 
--- src/lib.rt:674:16
 sub-dead : tie.Need-sub-dead
 sub-dead c = omega (arith, live-most _ _ _ _ _ _ _ ((c .before .before .before .before .before .pre .0) .0) ((c .before .before .before .before .before .pre .0) .1) ((c .before .before .before .before .before .pre .0) .2) ((c .before .before .before .before .before .pre .1)))
 
--- src/lib.rt:677:13
 tighten-requires : tie.Need-tighten-requires
 tighten-requires c κs = left-able _ _ _ _ _ _ _ ((c .before .before .before .before .before .before .before .before .pre .0) .0) ((c .before .before .before .before .before .before .before .before .pre .0) .1) ((c .before .before .before .before .before .before .before .before .pre .0) .2) ((c .before .before .before .before .before .before .before .before .pre .1)) _ ((c .before .before .before .before .before .unplace .ensures) .0) ((c .before .before .before .before .before .unplace .ensures) .1 .0) ((c .before .before .before .before .before .unplace .ensures) .1 .1)
 
--- src/lib.rt:677:13
 same-length : tie.Need-same-length
 same-length c = search needs
 
--- src/lib.rt:677:13
 returns : tie.Need-returns
 returns c = taken-tight _ _ _ _ _ _ _ ((c .before .before .before .before .before .before .before .before .before .before .before .pre .0) .0) ((c .before .before .before .before .before .before .before .before .before .before .before .pre .0) .1) ((c .before .before .before .before .before .before .before .before .before .before .before .pre .0) .2) ((c .before .before .before .before .before .before .before .before .before .before .before .pre .1)) _ ((c .before .before .before .before .before .before .before .before .unplace .ensures) .0) ((c .before .before .before .before .before .before .before .before .unplace .ensures) .1 .0) ((c .before .before .before .before .before .before .before .before .unplace .ensures) .1 .1) ((c .before .before .before .before .before .if1 .taken)) ((c .before .before .before .before .if2 .taken)) _ _ ((c .before .before .tighten .ensures))
 
--- src/lib.rt:667:1
 same-length-2 : tie.Need-same-length-2
 same-length-2 c = search needs
 
--- src/lib.rt:667:1
 returns-2 : tie.Need-returns-2
 returns-2 c = taken-less _ _ _ _ _ _ _ ((c .before .before .before .before .before .before .before .pre .0) .0) ((c .before .before .before .before .before .before .before .pre .0) .1) ((c .before .before .before .before .before .before .before .pre .0) .2) ((c .before .before .before .before .before .before .before .pre .1)) _ ((c .before .before .before .before .unplace .ensures) .0) ((c .before .before .before .before .unplace .ensures) .1 .0) ((c .before .before .before .before .unplace .ensures) .1 .1) ((c .before .if1 .taken)) ((c .if2 .left))
 
--- src/lib.rt:667:1
 same-length-3 : tie.Need-same-length-3
 same-length-3 c = search needs
 
--- src/lib.rt:667:1
 returns-3 : tie.Need-returns-3
 returns-3 c = taken-few _ _ _ _ _ _ _ ((c .before .before .before .before .before .before .pre .0) .0) ((c .before .before .before .before .before .before .pre .0) .1) ((c .before .before .before .before .before .before .pre .0) .2) ((c .before .before .before .before .before .before .pre .1)) _ ((c .before .before .before .unplace .ensures) .0) ((c .before .before .before .unplace .ensures) .1 .0) ((c .before .before .before .unplace .ensures) .1 .1) ((c .if1 .left))
 

@@ -3,24 +3,16 @@ use Rattle.map_store.proofs.Removals.{squeezed-able, tightened}
 use borrow.Author.Needs.{needs}
 use Rattle.map_store.proofs.tighten.Statement.{statement}
 use Rattle.map_store.proofs.tighten.Tie as tie
-use Rattle.map_store.proofs.tighten.Reads as reads
-use Rattle.map_store.proofs.tighten.Lts as lts
-use Rattle.map_store.proofs.rebuild.Reads as rebuild-reads
-use Rattle.map_store.proofs.squeeze.Reads as squeeze-reads
 
--- src/lib.rt:660:9
 squeeze-requires : tie.Need-squeeze-requires
 squeeze-requires c κs = omega (arith, (c .before .before .pre))
 
--- src/lib.rt:661:5
 rebuild-requires : tie.Need-rebuild-requires
 rebuild-requires c κs = squeezed-able _ _ _ _ ((c .before .before .before .before .before .before .pre)) _ _ ((c .before .before .before .squeeze .ensures))
 
--- src/lib.rt:656:1
 same-length : tie.Need-same-length
 same-length c = search needs
 
--- src/lib.rt:656:1
 returns : tie.Need-returns
 returns c = tightened _ _ _ _ ((c .before .before .before .before .before .before .before .before .before .pre)) _ _ ((c .before .before .before .before .before .before .squeeze .ensures)) _ ((c .before .before .rebuild .ensures))
 
