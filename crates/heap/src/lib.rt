@@ -626,6 +626,26 @@ fn clear_order(order: &mut [u32], n: usize)
     }
 }
 
+// The record of a heap without objects.
+fn new_heap(size: u64, limit: u64, weights: Weights) -> Heap
+    ensures { λ r. ⌜ r ≡ newHeap size limit weights ⌝ }
+{
+    let account = Account::new(limit);
+    Heap {
+        account,
+        weights,
+        size,
+        fresh: 0,
+        free: 0,
+        top: 0,
+        entries: 0,
+        taken: 0,
+        present: 0,
+        collections: 0,
+        freed: 0,
+    }
+}
+
 // A heap of `size` slots over the lent buffers. The layout's sections go into the table; marks and
 // order are put to rest.
 pub fn open(
@@ -664,20 +684,7 @@ pub fn open(
             let n = size as usize;
             clear_marks(marks, n);
             clear_order(order, n * 2);
-            let account = Account::new(limit);
-            Opened::Ready(Heap {
-                account,
-                weights,
-                size,
-                fresh: 0,
-                free: 0,
-                top: 0,
-                entries: 0,
-                taken: 0,
-                present: 0,
-                collections: 0,
-                freed: 0,
-            })
+            Opened::Ready(new_heap(size, limit, weights))
         }
     }
 }
