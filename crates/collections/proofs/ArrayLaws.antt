@@ -37,7 +37,8 @@ use Rattle.heap.proofs.KindLaws.{content-array, room-array, says-array}
 use Rattle.heap.proofs.ReachLaws.{Target, located-at, target-met}
 use Rattle.heap.proofs.ReadLaws.{object-refused, reads-array, reads-items}
 use Rattle.heap.proofs.SlotLaws.{raw-length}
-use Rattle.heap.proofs.StepLaws.{own-len, raw-words, rawWords, touched-words}
+use Rattle.heap.proofs.StepLaws.{own-len, raw-words, touched-words}
+use Rattle.heap.proofs.KindLaws.{rawWords}
 use Rattle.heap.proofs.StoreLaws.{Stored, does-stored-charged}
 use Rattle.heap.proofs.TouchLaws.{touched-none}
 use Rattle.collections.specs.Words.{ItemIs}
