@@ -182,16 +182,17 @@ fn store_word(
         Located::Refused(q) => Done::Refused(q),
         Located::At(at) => {
             let h = slots::read_header(slots, at);
-            if i < h.len {
-                let p = (h.start + i) as usize;
-                cells[p] = v;
-                return Done::Accepted;
+            if h.len <= i {
+                return Done::Refused(Refusal::Outside);
             }
-            Done::Refused(Refusal::Outside)
+            let p = (h.start + i) as usize;
+            cells[p] = v;
+            Done::Accepted
         }
     }
 }
 
+// A box's word.
 pub fn read_box(
     heap: Heap,
     slots: &[u64],
@@ -207,6 +208,7 @@ pub fn read_box(
     read_value(slots, heap.fresh, w, BOX)
 }
 
+// A cell's word, and its type.
 pub fn read_cell(
     heap: Heap,
     slots: &[u64],
@@ -237,6 +239,7 @@ pub fn cell_type(
     read_mode(slots, heap.fresh, w, CELL)
 }
 
+// An error's kind, and its word.
 pub fn error_kind(
     heap: Heap,
     slots: &[u64],
@@ -267,6 +270,7 @@ pub fn error_word(
     read_value(slots, heap.fresh, w, ERROR)
 }
 
+// An integer object's number.
 pub fn read_integer(
     heap: Heap,
     slots: &[u64],
@@ -330,6 +334,7 @@ pub fn read_string(
     }
 }
 
+// An array's type, length and capacity.
 pub fn array_type(
     heap: Heap,
     slots: &[u64],
@@ -375,6 +380,7 @@ pub fn array_capacity(
     read_size(slots, heap.fresh, w, ARRAY)
 }
 
+// Item i as it was stored: no box is seen through. 3 outside the length.
 pub fn read_item(
     heap: Heap,
     slots: &[u64],
@@ -391,6 +397,7 @@ pub fn read_item(
     read_word(slots, cells, heap.fresh, w, ARRAY, i)
 }
 
+// A struct's type, its number of fields, and field i.
 pub fn struct_number(
     heap: Heap,
     slots: &[u64],
@@ -437,6 +444,7 @@ pub fn read_field(
     read_word(slots, cells, heap.fresh, w, STRUCT, i)
 }
 
+// Whether a function is an import, its number, its number of captures, and capture i.
 pub fn is_import(
     heap: Heap,
     slots: &[u64],
@@ -504,6 +512,7 @@ pub fn read_capture(
     read_word(slots, cells, heap.fresh, w, FUNCTION, i)
 }
 
+// A coroutine's state, its four words, its sequence, and whether it is finalized.
 pub fn read_state(
     heap: Heap,
     slots: &[u64],
@@ -615,6 +624,7 @@ pub fn coroutine_finalized(
     }
 }
 
+// A coroutine's registers and frames.
 pub fn register_count(
     heap: Heap,
     slots: &[u64],
@@ -700,6 +710,7 @@ pub fn read_register(
     read_word(slots, cells, heap.fresh, w, COROUTINE, i)
 }
 
+// A new word for a cell or a box.
 pub fn store_cell(
     heap: Heap,
     slots: &mut [u64],
@@ -732,6 +743,7 @@ pub fn store_box(
     store_value(slots, heap.fresh, w, BOX, v)
 }
 
+// Field, capture and register i: 3 outside.
 pub fn store_field(
     heap: Heap,
     slots: &[u64],
@@ -783,6 +795,7 @@ pub fn store_register(
     store_word(slots, cells, heap.fresh, w, COROUTINE, i, v)
 }
 
+// A new word for a coroutine.
 pub fn store_payload(
     heap: Heap,
     slots: &[u64],
@@ -847,6 +860,7 @@ pub fn store_signal(
     store_scalar(slots, scalars, heap.fresh, w, SIGNAL, v)
 }
 
+// A new state for a coroutine; 4 for one above 4, before the coroutine is looked for.
 pub fn set_state(
     heap: Heap,
     slots: &mut [u64],
