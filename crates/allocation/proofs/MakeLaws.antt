@@ -1,17 +1,18 @@
 -- A new object of any kind: refused, or placed. Assumes nothing.
 use Prim.Native.Nat.{ℕ, _+_, _*_, _≤_, _<_}
-use mathlib.Core.Path.{_≡_, refl, ap, _∙_}
+use mathlib.Core.Path.{_≡_, refl, ap, sym, _∙_}
 use mathlib.Core.List.{List, []}
 use mathlib.Core.Option.{some}
 use native.Mathlib.Omega.{arith}
 use lib.Dec.{leb}
-use lib.ListN.{length, take, drop}
+use lib.ListN.{length, getD, take, drop}
 use Rattle.account.specs.Account.{saturated}
 use Rattle.slots.specs.Header.{setScalars, withRegion}
 use Rattle.slots.specs.declared.Header.{Header}
 use Rattle.slots.specs.declared.Scalars.{Scalars}
 use Rattle.slots.proofs.Cases.{by-cases, same-or-not}
 use Rattle.slots.proofs.HeaderLaws.{scalarsAt-same}
+use Rattle.cells.specs.Moves.{stringCells}
 use Rattle.history.proofs.Facts.{eqb-no, eqb-yes, leb-no, leb-yes}
 use Rattle.layout.specs.Layout.{Layout}
 use Rattle.map_store.specs.Store.{Room}
@@ -21,6 +22,7 @@ use Rattle.model.specs.Replies.{no-memory}
 use Rattle.model.specs.Model.{viewOf}
 use Rattle.model.specs.Refusals.{first, unless}
 use Rattle.model.specs.Terms.{allocating, charging, terms}
+use Rattle.heap.specs.declared.Heap.{Heap}
 use Rattle.heap.specs.declared.Done.{Done}
 use Rattle.heap.specs.declared.Done.the-variants as Do
 use Rattle.heap.specs.declared.Reading.{Reading}
@@ -29,15 +31,15 @@ use Rattle.heap.specs.declared.Refusal.{Refusal}
 use Rattle.heap.specs.declared.Refusal.the-variants as No
 use Rattle.heap.specs.Answers.{madeIs, numberOf}
 use Rattle.heap.specs.Kinds.{contentOf, roomOf}
-use Rattle.heap.specs.State.{State, modelOf, moreOf, withScalars}
+use Rattle.heap.specs.State.{State, modelOf, moreOf, withCells, withScalars}
 use Rattle.heap.specs.Good.{Good, SlotGood}
 use Rattle.heap.specs.Promise.{Performs}
-use Rattle.heap.specs.Placing.{newRaw, newWord, nextRegion, nextSlot, placedPlain}
+use Rattle.heap.specs.Placing.{Roomy, judgedNew, newRaw, newWord, nextRegion, nextSlot, placedPlain, placedRegion}
 use Rattle.heap.proofs.PlaceLaws.{does-plain, does-region, judged-accepted, judged-refused}
 use Rattle.heap.proofs.DoesLaws.{does-own}
-use Rattle.heap.proofs.IdleLaws.{Alike, alike-good, alike-model, alike-scalars, does-from, next-below, next-empty}
+use Rattle.heap.proofs.IdleLaws.{Alike, alike-cells, alike-good, alike-model, alike-scalars, does-from, next-below, next-empty}
 use Rattle.heap.proofs.StepLaws.{own-scalars}
-use Rattle.allocation.specs.Making.{MadePlain, Placeable, Ready, answerBy, judgedIn, placed, stateBy, withNext}
+use Rattle.allocation.specs.Making.{MadePlain, Placeable, Prepared, Ready, answerBy, judgedIn, placed, stateBy, withNext}
 
 -- ---- the call
 
@@ -88,6 +90,27 @@ pub record Means (h : Header) (region : List ℕ) (x : Scalars) (c : Content) (s
   pub fit : SlotGood (newRaw 65536 h region) x
   pub content : contentOf (newRaw 65536 h region) x ≡ c
   pub room : roomOf (newRaw 65536 h region) ≡ s
+
+-- a slot of any row but map and iterator
+pub new-good : (h : Header) (region : List ℕ) (x : Scalars) → 1 ≤ h .kind → h .kind ≤ 11 → (h .kind ≡ 7 → ⊥) → (h .kind ≡ 10 → ⊥) → (h .kind ≡ 1 → h .size ≡ stringCells (h .len)) →
+    (2 ≤ h .kind → h .kind ≤ 5 → h .size ≡ 0) → (6 ≤ h .kind → h .kind ≤ 9 → h .len ≡ h .size) → (h .kind ≡ 11 → h .size ≡ h .len + 4 * x .f) → SlotGood (newRaw 65536 h region) x
+new-good h region x lo hi no-map no-iterator string plain words coroutine = record {
+  half-low = omega arith;
+  half-high = omega arith;
+  kind = hi;
+  empty = λ e. absurd (omega (arith, e));
+  string = string;
+  integer = λ e. plain (omega (arith, e)) (omega (arith, e));
+  cell = λ e. plain (omega (arith, e)) (omega (arith, e));
+  error = λ e. plain (omega (arith, e)) (omega (arith, e));
+  box = λ e. plain (omega (arith, e)) (omega (arith, e));
+  array = λ e. omega (arith, words (omega (arith, e)) (omega (arith, e)));
+  map = λ e. absurd (no-map e);
+  struct = λ e. words (omega (arith, e)) (omega (arith, e));
+  function = λ e. words (omega (arith, e)) (omega (arith, e));
+  iterator = λ e. absurd (no-iterator e);
+  coroutine = coroutine;
+}
 
 -- without cells the region is empty
 means-empty : {h : Header} {x : Scalars} {c : Content} {s : Room} (l : List ℕ) → h .size ≡ 0 → Means h (take (h .size) l) x c s → Means (withRegion h 0 0 0) [] x c s
@@ -185,3 +208,61 @@ module _ {t m : State} {h : Header} {bytes : ℕ} where
 
     pub plain-performs : Performs k t (madeIs r) a
     plain-performs = performs-by (judgedIn t bytes 0) refl
+
+-- ---- prepared
+
+pub prepared-refused : {t : State} {bytes size : ℕ} {d : Done} {q : Refusal} → d ≡ judgedIn t bytes size → d ≡ Do.Refused q → Prepared t bytes size (Do.Refused q) t
+prepared-refused e f = record { judged = sym f ∙ e; refused = λ q x. refl; accepted = λ x. absurd (let z : _≡_ {A = ℕ} 0 1 = cc in omega arith) }
+
+pub prepared-none : {t : State} {bytes size : ℕ} {d : Done} → Good t → d ≡ judgedIn t bytes size → d ≡ Do.Accepted → size ≡ 0 → Prepared t bytes size Do.Accepted t
+prepared-none {t} {bytes} g e f z = record { judged = sym f ∙ e; refused = λ q x. refl; accepted = λ x. rw z (ready-self g (rw z at (sym e ∙ f))) }
+
+pub room-left : {t : State} (bytes size : ℕ) {d : Done} → Good t → d ≡ judgedIn t bytes size → d ≡ Do.Accepted → t .heap .taken + size ≤ length (t .cells)
+room-left {t} bytes size g e f = judged-accepted t bytes size (sym e ∙ f) .room
+
+-- room for a region changes nothing that is judged
+judged-roomy : {t m : State} {size : ℕ} (bytes n : ℕ) → Roomy t m size → judgedIn m bytes n ≡ judgedIn t bytes n
+unfolding judgedNew
+judged-roomy {t} {m} bytes n y = ap (λ (h : Heap). judgedNew h (length (m .cells)) bytes n) (y .heap) ∙ rw (y .cells-length)
+
+pub prepared-room : {t m : State} {bytes size : ℕ} {d : Done} → d ≡ judgedIn t bytes size → d ≡ Do.Accepted → Roomy t m size → Prepared t bytes size Do.Accepted m
+prepared-room {t} {m} {bytes} {size} e f y = record {
+  judged = sym f ∙ e;
+  refused = λ q x. absurd (let z : _≡_ {A = ℕ} 0 1 = cc in omega arith);
+  accepted = λ x. record {
+    placeable = record { good = y .good; judged = judged-roomy bytes size y ∙ sym e ∙ f; region = y .region; entry = λ ne. y .entry };
+    model = y .model;
+  };
+}
+
+-- ---- cells written above the top
+
+pub record Above (c c′ : List ℕ) (top : ℕ) : Type 0 where
+  pub len : length c′ ≡ length c
+  pub below : (q : ℕ) → q < top → getD c′ q 0 ≡ getD c q 0
+
+pub ready-cells : {t m : State} {bytes size : ℕ} {c′ : List ℕ} → Ready t m bytes size → Above (m .cells) c′ (m .heap .top) → Ready t (withCells m c′) bytes size
+ready-cells {c′ = c′} y o =
+    let z = y .placeable in
+    let alike = alike-cells c′ (z .good) (o .len) (o .below) in
+    record {
+      placeable = record { good = alike-good (z .good) alike; judged = rw (o .len) (z .judged); region = rw (o .len) (z .region); entry = z .entry };
+      model = λ l. alike-model (z .good) alike l ∙ y .model l;
+    }
+
+-- ---- finished
+
+module _ {m a : State} (h : Header) {bytes : ℕ} (y : Placeable m bytes (h .size)) where
+  pub finished-plain : h .size ≡ 0 → a ≡ placedPlain m h bytes → a ≡ placed m h bytes
+  finished-plain z e = rw (eqb-yes (h .size) 0 z) e
+
+  pub finished-region : (h .size ≡ 0 → ⊥) → a ≡ placedRegion m h bytes → a ≡ placed m h bytes
+  finished-region ne e = rw (eqb-no (h .size) 0 ne) e
+
+module _ {t : State} (g : Good t) {k : Call} {c : Content} {s : Room} (w : Makes t k c s) {bytes : ℕ} (bytes-are : bytes ≡ saturated (weightOf t c s)) where
+  pub region-refused : {m : State} {size : ℕ} {d : Done} {q : Refusal} → cellsOf c s ≡ size → Prepared t bytes size d m → d ≡ Do.Refused q → Performs k t (madeIs (Read.Refused q)) m
+  region-refused {q = q} n p f = rw (p .refused q f) (new-refused g w bytes-are n (sym (p .judged) ∙ f))
+
+  pub region-made : {m a : State} (h : Header) {r : Reading} → Ready t m bytes (h .size) → Means h (nextRegion m (h .size)) (moreOf m (nextSlot m)) c s → (a ≡ placed m h bytes) × (r ≡ Read.Is (newWord m (h .kind))) →
+      Performs k t (madeIs r) a
+  region-made h y p e = rw (e .0, e .1) (new-placed g w bytes-are h y p)

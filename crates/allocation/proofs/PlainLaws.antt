@@ -14,7 +14,7 @@ use Rattle.slots.specs.declared.Scalars.{Scalars}
 use Rattle.slots.proofs.SignedLaws.{signed-bits}
 use Rattle.model.specs.Calls as Calls
 use Rattle.model.specs.Calls.{Call, effect, noRoom}
-use Rattle.model.specs.Content.{Content, bytesOf, cellsOf, integer}
+use Rattle.model.specs.Content.{Content, bytesOf, cellsOf}
 use Rattle.model.specs.Refusals.{type-4}
 use Rattle.model.specs.Terms.{terms}
 use Rattle.heap.specs.declared.Reading.{Reading}
@@ -23,33 +23,13 @@ use Rattle.heap.specs.declared.Refusal.the-variants as No
 use Rattle.heap.specs.Answers.{madeIs}
 use Rattle.heap.specs.Kinds.{contentOf}
 use Rattle.heap.specs.State.{State}
-use Rattle.heap.specs.Good.{Good, SlotGood}
+use Rattle.heap.specs.Good.{Good}
 use Rattle.heap.specs.Promise.{Performs}
 use Rattle.heap.specs.Placing.{newRaw}
 use Rattle.heap.proofs.KindLaws.{content-box, content-cell, content-error, content-integer, room-none}
 use Rattle.heap.proofs.DoesLaws.{first-none, first-passes, first-refuses}
 use Rattle.allocation.specs.Making.{MadePlain, headerOf}
-use Rattle.allocation.proofs.MakeLaws.{Makes, above-4, makes, plain-performs, ready-self, refused-own, within-4}
-
--- the rows without cells and scalars
-plain-good : (h : Header) (x : Scalars) → 2 ≤ h .kind → h .kind ≤ 5 → h .size ≡ 0 → SlotGood (newRaw 65536 h []) x
-plain-good h x lo hi z = record {
-  half-low = omega arith;
-  half-high = omega arith;
-  kind = omega arith;
-  empty = λ e. absurd (omega (arith, e));
-  string = λ e. absurd (omega (arith, e));
-  integer = λ e. z;
-  cell = λ e. z;
-  error = λ e. z;
-  box = λ e. z;
-  array = λ e. absurd (omega (arith, e));
-  map = λ e. absurd (omega (arith, e));
-  struct = λ e. absurd (omega (arith, e));
-  function = λ e. absurd (omega (arith, e));
-  iterator = λ e. absurd (omega (arith, e));
-  coroutine = λ e. absurd (omega (arith, e));
-}
+use Rattle.allocation.proofs.MakeLaws.{Makes, above-4, makes, new-good, plain-performs, ready-self, refused-own, within-4}
 
 -- the charge is the slot weight alone
 slot-weight : {t : State} → Good t → t .heap .weights .slot ≡ saturated (t .heap .weights .slot + 0)
@@ -65,7 +45,7 @@ module _ {t a : State} {h : Header} {r : Reading} (g : Good t) where
   four {c = c} kind value mode w lo hi h-is content bytes cells d =
       let d′ : MadePlain t t (headerOf kind value mode 0 0) (t .heap .weights .slot) r a = rw h-is at d in
       plain-performs g w (rw bytes (slot-weight g)) cells (λ e. ready-self g e)
-      (λ e. record { some-kind = λ z. absurd (omega (arith, z)); fit = plain-good (headerOf kind value mode 0 0) _ lo hi refl; content = content _; room = room-none _ (λ z. absurd (omega (arith, z))) (λ z. absurd (omega (arith, z))) })
+      (λ e. record { some-kind = λ z. absurd (omega (arith, z)); fit = new-good (headerOf kind value mode 0 0) [] _ (omega arith) (omega arith) (λ z. absurd (omega (arith, z))) (λ z. absurd (omega (arith, z))) (λ z. absurd (omega (arith, z))) (λ l z. refl) (λ l z. absurd (omega (arith, l))) (λ z. absurd (omega (arith, z))); content = content _; room = room-none _ (λ z. absurd (omega (arith, z))) (λ z. absurd (omega (arith, z))) })
       d′
 
   pub integer-made : {z : ℤ} {v : ℕ} → SFits w64 z → v ≡ bits64 z → h ≡ headerOf 2 v 0 0 0 → MadePlain t t h (t .heap .weights .slot) r a → Performs (Calls.new-integer z) t (madeIs r) a

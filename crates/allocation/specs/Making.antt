@@ -2,6 +2,7 @@
 use Prim.Native.Nat.{ℕ, _+_, _*_, _≤_, _<_}
 use mathlib.Core.Path.{_≡_}
 use mathlib.Core.Bool.{cond}
+use mathlib.Core.List.{List}
 use lib.Dec.{eqb}
 use lib.ListN.{length}
 use Rattle.slots.specs.Header.{setScalars}
@@ -10,11 +11,12 @@ use Rattle.slots.specs.declared.Scalars.{Scalars}
 use Rattle.layout.specs.Layout.{Layout}
 use Rattle.heap.specs.declared.Done.{Done}
 use Rattle.heap.specs.declared.Done.the-variants as Do
+use Rattle.heap.specs.declared.Refusal.{Refusal}
 use Rattle.heap.specs.declared.Reading.{Reading}
 use Rattle.heap.specs.declared.Reading.the-variants as Read
 use Rattle.heap.specs.State.{State, modelOf, withScalars}
 use Rattle.heap.specs.Good.{Good}
-use Rattle.heap.specs.Placing.{judgedNew, newWord, nextSlot, placedPlain, placedRegion}
+use Rattle.heap.specs.Placing.{judgedNew, newWord, nextRegion, nextSlot, placedPlain, placedRegion}
 
 -- half, start and entry come with the placing
 abbrev pub headerOf : ℕ → ℕ → ℕ → ℕ → ℕ → Header
@@ -58,3 +60,14 @@ pub record Ready (t m : State) (bytes size : ℕ) : Type 0 where
 -- without cells, or with the next region at the top
 abbrev pub placed : State → Header → ℕ → State
 placed m h bytes = cond (eqb (h .size) 0) (placedPlain m h bytes) (placedRegion m h bytes)
+
+-- 5, 6, 7 judged, and room made
+pub record Prepared (t : State) (bytes size : ℕ) (d : Done) (m : State) : Type 0 where
+  pub judged : d ≡ judgedIn t bytes size
+  pub refused : (q : Refusal) → d ≡ Do.Refused q → m ≡ t
+  pub accepted : d ≡ Do.Accepted → Ready t m bytes size
+
+-- an object of the cells ws: refused, and nothing changed; or placed in a state m that has them at the top
+pub data MadeWords (t : State) (h : Header) (bytes : ℕ) (ws : List ℕ) (r : Reading) (a : State) : Type 0 where
+  turned-back : (q : Refusal) → judgedIn t bytes (h .size) ≡ Do.Refused q → r ≡ Read.Refused q → a ≡ t → MadeWords t h bytes ws r a
+  made-in : (m : State) → Ready t m bytes (h .size) → nextRegion m (h .size) ≡ ws → r ≡ Read.Is (newWord m (h .kind)) → a ≡ placed m h bytes → MadeWords t h bytes ws r a
