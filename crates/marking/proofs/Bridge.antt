@@ -20,7 +20,7 @@ use Rattle.slots.specs.declared.Header.{Header}
 use Rattle.layout.specs.Layout.{Layout}
 use Rattle.model.specs.Reference.{Ref, flag, refIn, word}
 use Rattle.model.specs.Content.{Content, traced}
-use Rattle.model.specs.View.{Live, View, look, mem, named}
+use Rattle.model.specs.View.{Live, View, look, mem, referenceOf}
 use Rattle.model.specs.Slots.{live, liveObject, slotView}
 use Rattle.model.specs.Model.{viewOf}
 use Rattle.model.specs.Kept.{Reach, root, onward, reached, finalizable, kept}
@@ -147,7 +147,7 @@ module _ (l : Layout) (t : State) (g : Good t) where
   view-valid i o e = let h = at-some i o e in (let x = ap (λ (y : Live). y .gen) (h .is) in omega arith, omega (arith, h .low, g .fresh, g .slots-max))
 
   -- an object's reference
-  pub named-word : (i : ℕ) → i < t .heap .fresh → named i (liveAt i) ≡ wordAt (t .slots) i
+  pub named-word : (i : ℕ) → i < t .heap .fresh → referenceOf i (liveAt i) ≡ wordAt (t .slots) i
   unfolding word rawAt
   named-word i h = go (decLe 98304 (headerAt (t .slots) i .half))
     where
@@ -176,7 +176,7 @@ module _ (l : Layout) (t : State) (g : Good t) where
   look-hits w c e =
       let k = look-some view w c e in
       let h = at-some (k .ref .slot) (k .obj) (k .there) in
-      let q : word (k .ref) ≡ named (k .ref .slot) (liveAt (k .ref .slot)) =
+      let q : word (k .ref) ≡ referenceOf (k .ref .slot) (liveAt (k .ref .slot)) =
       (λ j. word record { gen = (k .gen-is ∙ ap (λ (y : Live). y .gen) (h .is)) j; boxed = (k .boxed-is ∙ ap (λ (y : Live). y .boxed) (h .is)) j; slot = k .ref .slot }) in
       let n : w ≡ wordAt (t .slots) (k .ref .slot) = sym (word-refIn w (k .ref) (k .reads)) ∙ q ∙ named-word (k .ref .slot) (h .low) in
       record {
@@ -192,7 +192,7 @@ module _ (l : Layout) (t : State) (g : Good t) where
   word-looks i h k =
       let a = at-held i h k in
       let v = view-valid i (liveAt i) a in
-      rw (← named-word i h) (look-of view (named i (liveAt i)) record { gen = liveAt i .gen; boxed = liveAt i .boxed; slot = i } (liveAt i) (refIn-word _ (v .0) (v .1)) a refl refl)
+      rw (← named-word i h) (look-of view (referenceOf i (liveAt i)) record { gen = liveAt i .gen; boxed = liveAt i .boxed; slot = i } (liveAt i) (refIn-word _ (v .0) (v .1)) a refl refl)
 
   -- ---- the two least sets
 

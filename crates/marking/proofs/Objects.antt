@@ -15,7 +15,7 @@ use Rattle.slots.specs.declared.Scalars.{Scalars}
 use Rattle.cells.specs.Regions.{rawAt, rawOf, regionOf}
 use Rattle.layout.specs.Layout.{Layout, isTraced, fieldsOf, capturesOf}
 use Rattle.map_store.specs.View.{entriesIn, storeOf}
-use Rattle.model.specs.Content.{traced, if, picked, typed, entryWords, keyWord, frameWords}
+use Rattle.model.specs.Content.{traced, wordIf, wordsAt, tracedByType, entryWords, keyWord, frameWords}
 use Rattle.heap.specs.Kinds as Kinds
 use Rattle.heap.specs.Kinds.{perhaps, mapOf, framesIn, contentOf}
 use Rattle.heap.specs.Good.{SlotGood}
@@ -60,7 +60,7 @@ module _ (l : Layout) (s x c : List ℕ) (i : ℕ) {h : Header} (q : h ≡ heade
   abbrev region : List ℕ
   region = take ((h .start + h .size) - h .start) (drop (h .start) c)
 
-  pub kids-cell : h .kind ≡ 3 → children l s x c i ≡ if (isTraced (h .mode)) (h .value)
+  pub kids-cell : h .kind ≡ 3 → children l s x c i ≡ wordIf (isTraced (h .mode)) (h .value)
   unfolding children contentOf traced rawAt
   kids-cell e = rw (← q, e)
 
@@ -80,11 +80,11 @@ module _ (l : Layout) (s x c : List ℕ) (i : ℕ) {h : Header} (q : h ≡ heade
   unfolding children contentOf traced rawAt
   kids-map z e = rw (← q, ← z, e, part-of (h .start) (h .size) c)
 
-  pub kids-struct : h .kind ≡ 8 → h .len ≤ h .size → children l s x c i ≡ picked (fieldsOf l (h .value)) (take ((h .start + h .len) - h .start) (drop (h .start) c))
+  pub kids-struct : h .kind ≡ 8 → h .len ≤ h .size → children l s x c i ≡ wordsAt (fieldsOf l (h .value)) (take ((h .start + h .len) - h .start) (drop (h .start) c))
   unfolding children contentOf traced rawAt
   kids-struct e f = rw (← q, e, take-take (h .len) (h .size) (drop (h .start) c) f, part-of (h .start) (h .len) c)
 
-  pub kids-function : h .kind ≡ 9 → h .len ≤ h .size → children l s x c i ≡ cond (Kinds.yes (h .mode)) [] (typed (capturesOf l (h .value)) (take ((h .start + h .len) - h .start) (drop (h .start) c)))
+  pub kids-function : h .kind ≡ 9 → h .len ≤ h .size → children l s x c i ≡ cond (Kinds.yes (h .mode)) [] (tracedByType (capturesOf l (h .value)) (take ((h .start + h .len) - h .start) (drop (h .start) c)))
   unfolding children contentOf traced rawAt
   kids-function e f = rw (← q, e, take-take (h .len) (h .size) (drop (h .start) c) f, part-of (h .start) (h .len) c)
 

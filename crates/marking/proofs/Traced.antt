@@ -15,7 +15,7 @@ use Rattle.layout.specs.declared.Listed.{Listed}
 use Rattle.layout.specs.declared.Listed.the-variants.{Number, End}
 use Rattle.map_store.specs.View.{entryAt, entriesIn}
 use Rattle.map_store.specs.Entries.{entries-rest, entries-none}
-use Rattle.model.specs.Content.{if, picked, typed, entryWords, keyWord, frameWords}
+use Rattle.model.specs.Content.{wordIf, wordsAt, tracedByType, entryWords, keyWord, frameWords}
 use Rattle.heap.specs.Kinds.{yes, perhaps, frameAt, framesIn}
 use Rattle.marking.specs.Children.{liveWords, oneFrame}
 
@@ -24,12 +24,12 @@ pub from-zero : (n : ℕ) → n - 0 ≡ n
 from-zero n = omega arith
 
 module _ (ty w : ℕ) where
-  pub typed-word : 1 ≤ ty → if (isTraced ty) w ≡ w ∷ []
-  unfolding if
+  pub typed-word : 1 ≤ ty → wordIf (isTraced ty) w ≡ w ∷ []
+  unfolding wordIf
   typed-word h = rw (le-leb 1 ty h)
 
-  pub typed-none : ty < 1 → if (isTraced ty) w ≡ []
-  unfolding if
+  pub typed-none : ty < 1 → wordIf (isTraced ty) w ≡ []
+  unfolding wordIf
   typed-none h = rw (lt-leb 1 ty h)
 
 module _ (ws : List ℕ) (i : ℕ) where
@@ -56,10 +56,10 @@ import-captures import ws h = rw (ne-eqb import 0 h)
 
 module _ (k v : Bool) (cells : List ℕ) (p : ℕ) where
   pub entry-dead : (getD cells (p * 5 + 4) 0 ≡ 1 → ⊥) → liveWords k v (entryAt cells p) ≡ []
-  unfolding entryAt if
+  unfolding entryAt wordIf
   entry-dead h = rw (ne-eqb (getD cells (p * 5 + 4) 0) 1 h)
 
-  pub entry-live : getD cells (p * 5 + 4) 0 ≡ 1 → liveWords k v (entryAt cells p) ≡ if k (getD cells (p * 5 + 1) 0) ++ if v (getD cells (p * 5 + 2) 0)
+  pub entry-live : getD cells (p * 5 + 4) 0 ≡ 1 → liveWords k v (entryAt cells p) ≡ wordIf k (getD cells (p * 5 + 1) 0) ++ wordIf v (getD cells (p * 5 + 2) 0)
   unfolding entryAt
   entry-live h = rw (eq-eqb (getD cells (p * 5 + 4) 0) 1 h)
 
@@ -74,44 +74,44 @@ module _ (k v : Bool) (cells : List ℕ) (p : ℕ) where
 -- ---- listed positions
 
 module _ (ws : List ℕ) (base n : ℕ) where
-  pub at-out : length ws ≤ base + n → if (ltb (base + n) (length ws)) (getD ws (base + n) 0) ≡ []
-  unfolding if
+  pub at-out : length ws ≤ base + n → wordIf (ltb (base + n) (length ws)) (getD ws (base + n) 0) ≡ []
+  unfolding wordIf
   at-out h = rw (le-ltb (base + n) (length ws) h)
 
-  pub at-in : base + n < length ws → if (ltb (base + n) (length ws)) (getD ws (base + n) 0) ≡ getD ws (base + n) 0 ∷ []
-  unfolding if
+  pub at-in : base + n < length ws → wordIf (ltb (base + n) (length ws)) (getD ws (base + n) 0) ≡ getD ws (base + n) 0 ∷ []
+  unfolding wordIf
   at-in h = rw (lt-ltb (base + n) (length ws) h)
 
-  pub register-front : {ns rest : List ℕ} → ns ≡ n ∷ rest → picked (map (λ m. base + m) ns) ws ≡ if (ltb (base + n) (length ws)) (getD ws (base + n) 0) ++ picked (map (λ m. base + m) rest) ws
-  unfolding picked
+  pub register-front : {ns rest : List ℕ} → ns ≡ n ∷ rest → wordsAt (map (λ m. base + m) ns) ws ≡ wordIf (ltb (base + n) (length ws)) (getD ws (base + n) 0) ++ wordsAt (map (λ m. base + m) rest) ws
+  unfolding wordsAt
   register-front e = rw e
 
-pub field-front : (ws : List ℕ) (n : ℕ) {ns rest : List ℕ} → ns ≡ n ∷ rest → picked ns ws ≡ if (ltb (0 + n) (length ws)) (getD ws (0 + n) 0) ++ picked rest ws
-unfolding picked
+pub field-front : (ws : List ℕ) (n : ℕ) {ns rest : List ℕ} → ns ≡ n ∷ rest → wordsAt ns ws ≡ wordIf (ltb (0 + n) (length ws)) (getD ws (0 + n) 0) ++ wordsAt rest ws
+unfolding wordsAt
 field-front ws n e = let z : 0 + n ≡ n = omega arith in rw (e, z)
 
-pub picked-end : (ws : List ℕ) {ns : List ℕ} → ns ≡ [] → picked ns ws ≡ []
-unfolding picked
+pub picked-end : (ws : List ℕ) {ns : List ℕ} → ns ≡ [] → wordsAt ns ws ≡ []
+unfolding wordsAt
 picked-end ws e = rw e
 
-pub registers-end : (ws : List ℕ) (base : ℕ) {ns : List ℕ} → ns ≡ [] → picked (map (λ m. base + m) ns) ws ≡ []
-unfolding picked
+pub registers-end : (ws : List ℕ) (base : ℕ) {ns : List ℕ} → ns ≡ [] → wordsAt (map (λ m. base + m) ns) ws ≡ []
+unfolding wordsAt
 registers-end ws base e = rw e
 
 module _ (ws : List ℕ) (j : ℕ) where
-  pub capture-front : (t : ℕ) {ts rest : List ℕ} → j < length ws → ts ≡ t ∷ rest → typed ts (drop j ws) ≡ if (isTraced t) (getD ws j 0) ++ typed rest (drop (j + 1) ws)
-  unfolding typed
+  pub capture-front : (t : ℕ) {ts rest : List ℕ} → j < length ws → ts ≡ t ∷ rest → tracedByType ts (drop j ws) ≡ wordIf (isTraced t) (getD ws j 0) ++ tracedByType rest (drop (j + 1) ws)
+  unfolding tracedByType
   capture-front t h e = rw (e, add-one, drop-cons ws j 0 h)
 
-  pub capture-short : (ts : List ℕ) → length ws ≤ j → typed ts (drop j ws) ≡ []
+  pub capture-short : (ts : List ℕ) → length ws ≤ j → tracedByType ts (drop j ws) ≡ []
   capture-short ts h = rw (drop-of-length-le ws h) (go ts)
     where
-      go : (ts : List ℕ) → typed ts [] ≡ []
-      go [] = unfold typed in refl
-      go (t ∷ ts) = unfold typed in refl
+      go : (ts : List ℕ) → tracedByType ts [] ≡ []
+      go [] = unfold tracedByType in refl
+      go (t ∷ ts) = unfold tracedByType in refl
 
-  pub capture-end : {ts : List ℕ} → ts ≡ [] → typed ts (drop j ws) ≡ []
-  unfolding typed
+  pub capture-end : {ts : List ℕ} → ts ≡ [] → tracedByType ts (drop j ws) ≡ []
+  unfolding tracedByType
   capture-end e = rw e
 
 -- ---- frames
@@ -126,7 +126,7 @@ module _ (l : Layout) (rs fs : List ℕ) (j n : ℕ) where
   frames-end h = let e : n - j ≡ 0 = omega arith in rw e
 
 pub frame-whole : (l : Layout) (rs fs : List ℕ) (j : ℕ) {ns : List ℕ} → ns ≡ registersOf l (frameAt fs j .function) →
-    oneFrame l rs (frameAt fs j) ≡ (getD fs (j * 4 + 3) 0 ∷ []) ++ picked (map (λ n. getD fs (j * 4 + 2) 0 + n) ns) rs
+    oneFrame l rs (frameAt fs j) ≡ (getD fs (j * 4 + 3) 0 ∷ []) ++ wordsAt (map (λ n. getD fs (j * 4 + 2) 0 + n) ns) rs
 frame-whole l rs fs j e = rw e
 
 -- ---- iterators
@@ -136,7 +136,7 @@ module _ (source : ℕ) (t : Bool) (known key : ℕ) where
   unfolding keyWord
   key-unknown e = rw (eq-eqb known 0 e)
 
-  pub key-known : (known ≡ 0 → ⊥) → source ∷ keyWord t (perhaps known key) ≡ source ∷ if t key
+  pub key-known : (known ≡ 0 → ⊥) → source ∷ keyWord t (perhaps known key) ≡ source ∷ wordIf t key
   unfolding keyWord
   key-known e = rw (ne-eqb known 0 e)
 

@@ -9,7 +9,7 @@ use Rattle.slots.specs.declared.Found.the-variants as F
 use Rattle.cells.specs.Regions.{rawAt}
 use Rattle.layout.specs.Layout.{Layout, registersOf}
 use Rattle.map_store.specs.Store.{Entry}
-use Rattle.model.specs.Content.{if, picked, traced}
+use Rattle.model.specs.Content.{wordIf, wordsAt, traced}
 use Rattle.model.specs.declared.Frame.{Frame}
 use Rattle.heap.specs.Kinds.{contentOf}
 
@@ -32,8 +32,8 @@ wordAt s i = headerAt s i .half * 4294967296 + i
 
 -- one entry of a map: "key, then value of each live entry, each if traced type"
 abbrev pub liveWords : Bool → Bool → Entry → List ℕ
-liveWords k v e = if (e.live && k) e.key ++ if (e.live && v) e.value
+liveWords k v e = wordIf (e.live && k) e.key ++ wordIf (e.live && v) e.value
 
 -- one frame of a coroutine: "closure and listed registers (base + number)"
 abbrev pub oneFrame : Layout → List ℕ → Frame → List ℕ
-oneFrame l rs f = f.closure ∷ picked (map (λ n. f.base + n) (registersOf l f.function)) rs
+oneFrame l rs f = f.closure ∷ wordsAt (map (λ n. f.base + n) (registersOf l f.function)) rs

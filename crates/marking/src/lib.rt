@@ -9,7 +9,7 @@ ghost use lib.ListN.{length, getD, take, drop};
 ghost use Rattle.layout.specs.Layout.{isTraced, fieldsOf, capturesOf};
 ghost use Rattle.layout.specs.Sections.{Tabled, layoutOf, fieldsFrom, registersFrom, capturesFrom};
 ghost use Rattle.map_store.specs.View.{entryAt, entriesIn};
-ghost use Rattle.model.specs.Content.{if, picked, typed, entryWords, keyWord, frameWords};
+ghost use Rattle.model.specs.Content.{wordIf, wordsAt, tracedByType, entryWords, keyWord, frameWords};
 ghost use Rattle.slots.specs.Header.{scalarsAt};
 ghost use Rattle.heap.specs.Kinds.{yes, perhaps, frameAt, framesIn};
 ghost use Rattle.marking.specs.Reach.{run};
@@ -60,7 +60,7 @@ fn mark_typed(
     marked: usize,
 ) -> usize
     requires { ⌜ Ready (now slots) fresh (now marks) (now order) marked ⌝ }
-    ensures { λ r. ⌜ Marks (hit (now (slots .entry)) fresh) (if (isTraced ty) w) (now (marks .entry)) (now (order .entry)) marked (now (marks .exit)) (now (order .exit)) r ⌝ }
+    ensures { λ r. ⌜ Marks (hit (now (slots .entry)) fresh) (wordIf (isTraced ty) w) (now (marks .entry)) (now (order .entry)) marked (now (marks .exit)) (now (order .exit)) r ⌝ }
 {
     if 1 <= ty {
         return mark_word(w, slots, fresh, marks, order, marked);
@@ -148,7 +148,7 @@ fn mark_at(
     marked: usize,
 ) -> usize
     requires { ⌜ Ready (now slots) fresh (now marks) (now order) marked ⌝ }
-    ensures { λ r. ⌜ Marks (hit (now (slots .entry)) fresh) (if (ltb (base + n) (length (now (words .entry)))) (getD (now (words .entry)) (base + n) 0)) (now (marks .entry)) (now (order .entry)) marked (now (marks .exit)) (now (order .exit)) r ⌝ }
+    ensures { λ r. ⌜ Marks (hit (now (slots .entry)) fresh) (wordIf (ltb (base + n) (length (now (words .entry)))) (getD (now (words .entry)) (base + n) 0)) (now (marks .entry)) (now (order .entry)) marked (now (marks .exit)) (now (order .exit)) r ⌝ }
 {
     let count = words.len() as u64;
     if count <= base {
@@ -216,7 +216,7 @@ fn mark_fields(
     marked: usize,
 ) -> usize
     requires { ⌜ Ready (now slots) fresh (now marks) (now order) marked ⌝ }
-    ensures { λ r. ⌜ Marks (hit (now (slots .entry)) fresh) (picked (fieldsFrom (now (layout .entry)) at) (now (fields .entry))) (now (marks .entry)) (now (order .entry)) marked (now (marks .exit)) (now (order .exit)) r ⌝ }
+    ensures { λ r. ⌜ Marks (hit (now (slots .entry)) fresh) (wordsAt (fieldsFrom (now (layout .entry)) at) (now (fields .entry))) (now (marks .entry)) (now (order .entry)) marked (now (marks .exit)) (now (order .exit)) r ⌝ }
 {
     let mut k = marked;
     let mut from = at;
@@ -242,7 +242,7 @@ fn mark_registers(
     marked: usize,
 ) -> usize
     requires { ⌜ Ready (now slots) fresh (now marks) (now order) marked ⌝ }
-    ensures { λ r. ⌜ Marks (hit (now (slots .entry)) fresh) (picked (map (λ n. base + n) (registersFrom (now (layout .entry)) at)) (now (registers .entry))) (now (marks .entry)) (now (order .entry)) marked (now (marks .exit)) (now (order .exit)) r ⌝ }
+    ensures { λ r. ⌜ Marks (hit (now (slots .entry)) fresh) (wordsAt (map (λ n. base + n) (registersFrom (now (layout .entry)) at)) (now (registers .entry))) (now (marks .entry)) (now (order .entry)) marked (now (marks .exit)) (now (order .exit)) r ⌝ }
 {
     let mut k = marked;
     let mut from = at;
@@ -267,7 +267,7 @@ fn mark_captures(
     marked: usize,
 ) -> usize
     requires { ⌜ Ready (now slots) fresh (now marks) (now order) marked ⌝ }
-    ensures { λ r. ⌜ Marks (hit (now (slots .entry)) fresh) (typed (capturesFrom (now (layout .entry)) at) (now (captures .entry))) (now (marks .entry)) (now (order .entry)) marked (now (marks .exit)) (now (order .exit)) r ⌝ }
+    ensures { λ r. ⌜ Marks (hit (now (slots .entry)) fresh) (tracedByType (capturesFrom (now (layout .entry)) at) (now (captures .entry))) (now (marks .entry)) (now (order .entry)) marked (now (marks .exit)) (now (order .exit)) r ⌝ }
 {
     let mut k = marked;
     let mut from = at;
@@ -387,7 +387,7 @@ fn mark_struct(
 ) -> usize
     requires { ⌜ Tabled (now layout) (now table) ⌝ }
     requires { ⌜ Ready (now slots) fresh (now marks) (now order) marked ⌝ }
-    ensures { λ r. ⌜ Marks (hit (now (slots .entry)) fresh) (picked (fieldsOf (layoutOf (now (layout .entry))) number) (now (fields .entry))) (now (marks .entry)) (now (order .entry)) marked (now (marks .exit)) (now (order .exit)) r ⌝ }
+    ensures { λ r. ⌜ Marks (hit (now (slots .entry)) fresh) (wordsAt (fieldsOf (layoutOf (now (layout .entry))) number) (now (fields .entry))) (now (marks .entry)) (now (order .entry)) marked (now (marks .exit)) (now (order .exit)) r ⌝ }
 {
     let at = layout::struct_section(layout, table, number);
     mark_fields(fields, layout, at, slots, fresh, marks, order, marked)
@@ -408,7 +408,7 @@ fn mark_function(
 ) -> usize
     requires { ⌜ Tabled (now layout) (now table) ⌝ }
     requires { ⌜ Ready (now slots) fresh (now marks) (now order) marked ⌝ }
-    ensures { λ r. ⌜ Marks (hit (now (slots .entry)) fresh) (cond (yes import) [] (typed (capturesOf (layoutOf (now (layout .entry))) number) (now (captures .entry)))) (now (marks .entry)) (now (order .entry)) marked (now (marks .exit)) (now (order .exit)) r ⌝ }
+    ensures { λ r. ⌜ Marks (hit (now (slots .entry)) fresh) (cond (yes import) [] (tracedByType (capturesOf (layoutOf (now (layout .entry))) number) (now (captures .entry)))) (now (marks .entry)) (now (order .entry)) marked (now (marks .exit)) (now (order .exit)) r ⌝ }
 {
     if import == 0 {
         let at = layout::function_section(layout, table, number);

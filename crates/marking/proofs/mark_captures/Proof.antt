@@ -3,7 +3,7 @@ use native.Mathlib.Omega.{arith}
 use Prim.Native.Nat.{ℕ, _-_, _≤_}
 use lib.ListN.{length, drop}
 use Rattle.layout.specs.Sections.{capturesFrom}
-use Rattle.model.specs.Content.{typed}
+use Rattle.model.specs.Content.{tracedByType}
 use Rattle.marking.specs.Children.{hit}
 use Rattle.marking.proofs.Doing.{Doing, doing-start, doing-step, doing-end, doing-ready}
 use Rattle.marking.proofs.Traced.{capture-front, capture-short, capture-end, listed-more, listed-end}
@@ -15,7 +15,7 @@ use Rattle.layout.proofs.next_capture.Reads as next-capture-reads
 use Rattle.marking.proofs.mark_typed.Reads as mark-typed-reads
 
 abbrev Inv-loop : tie.InvT-loop
-Inv-loop captures layout at slots fresh marks₀ order₀ marked k₀ from₀ j₀ marks order k from j = (j ≤ length captures) × Doing (hit slots fresh) (typed (capturesFrom layout at) captures) marks₀ order₀ marked (typed (capturesFrom layout from) (drop j captures)) marks order k
+Inv-loop captures layout at slots fresh marks₀ order₀ marked k₀ from₀ j₀ marks order k from j = (j ≤ length captures) × Doing (hit slots fresh) (tracedByType (capturesFrom layout at) captures) marks₀ order₀ marked (tracedByType (capturesFrom layout from) (drop j captures)) marks order k
 
 abbrev μ-loop : tie.MeasureT-loop
 μ-loop captures layout at slots fresh marks₀ order₀ marked k₀ from₀ j₀ marks order k from j = length layout - from

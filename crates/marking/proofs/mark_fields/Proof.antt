@@ -3,7 +3,7 @@ use native.Mathlib.Omega.{arith}
 use Prim.Native.Nat.{ℕ, _-_}
 use lib.ListN.{length}
 use Rattle.layout.specs.Sections.{fieldsFrom}
-use Rattle.model.specs.Content.{picked}
+use Rattle.model.specs.Content.{wordsAt}
 use Rattle.marking.specs.Children.{hit}
 use Rattle.marking.proofs.Doing.{Doing, doing-start, doing-step, doing-end, doing-ready}
 use Rattle.marking.proofs.Traced.{field-front, picked-end, listed-more, listed-end}
@@ -15,7 +15,7 @@ use Rattle.layout.proofs.next_field.Reads as next-field-reads
 use Rattle.marking.proofs.mark_at.Reads as mark-at-reads
 
 abbrev Inv-loop : tie.InvT-loop
-Inv-loop fields layout at slots fresh marks₀ order₀ marked k₀ from₀ marks order k from = Doing (hit slots fresh) (picked (fieldsFrom layout at) fields) marks₀ order₀ marked (picked (fieldsFrom layout from) fields) marks order k
+Inv-loop fields layout at slots fresh marks₀ order₀ marked k₀ from₀ marks order k from = Doing (hit slots fresh) (wordsAt (fieldsFrom layout at) fields) marks₀ order₀ marked (wordsAt (fieldsFrom layout from) fields) marks order k
 
 abbrev μ-loop : tie.MeasureT-loop
 μ-loop fields layout at slots fresh marks₀ order₀ marked k₀ from₀ marks order k from = length layout - from

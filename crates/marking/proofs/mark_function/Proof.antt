@@ -1,7 +1,7 @@
 use mathlib.Core.Path.{_∙_, sym, ap}
 use mathlib.Core.List.{List}
 use Prim.Native.Nat.{ℕ}
-use Rattle.model.specs.Content.{typed}
+use Rattle.model.specs.Content.{tracedByType}
 use Rattle.marking.proofs.Doing.{marks-none, marks-as}
 use Rattle.marking.proofs.Traced.{own-captures, import-captures}
 use borrow.Author.Needs.{needs}
@@ -30,7 +30,7 @@ same-length-2 c = search needs
 
 -- src/lib.rt:243:9
 returns : tie.Need-returns
-returns c = marks-as (own-captures (c .before .before .before .before .before .before .before .before .before .before .before .before .before .before .before .args .import) _ (c .before .before .before .before .before .before .before .before .if1 .taken) ∙ ap (λ (ns : List ℕ). typed ns (c .before .before .before .before .before .before .before .before .before .before .before .before .before .before .before .args .captures .now)) (sym (c .before .before .before .before .before .before .before .function-section .ensures .captures))) (c .before .before .before .before .mark-captures .ensures)
+returns c = marks-as (own-captures (c .before .before .before .before .before .before .before .before .before .before .before .before .before .before .before .args .import) _ (c .before .before .before .before .before .before .before .before .if1 .taken) ∙ ap (λ (ns : List ℕ). tracedByType ns (c .before .before .before .before .before .before .before .before .before .before .before .before .before .before .before .args .captures .now)) (sym (c .before .before .before .before .before .before .before .function-section .ensures .captures))) (c .before .before .before .before .mark-captures .ensures)
 
 -- src/lib.rt:236:1
 returns-2 : tie.Need-returns-2

@@ -4,7 +4,7 @@ use Prim.Native.Nat.{ℕ, _+_, _-_}
 use mathlib.Core.List.{map}
 use lib.ListN.{length}
 use Rattle.layout.specs.Sections.{registersFrom}
-use Rattle.model.specs.Content.{picked}
+use Rattle.model.specs.Content.{wordsAt}
 use Rattle.marking.specs.Children.{hit}
 use Rattle.marking.proofs.Doing.{Doing, doing-start, doing-step, doing-end, doing-ready}
 use Rattle.marking.proofs.Traced.{register-front, registers-end, listed-more, listed-end}
@@ -16,7 +16,7 @@ use Rattle.layout.proofs.next_register.Reads as next-register-reads
 use Rattle.marking.proofs.mark_at.Reads as mark-at-reads
 
 abbrev Inv-loop : tie.InvT-loop
-Inv-loop registers base layout at slots fresh marks₀ order₀ marked k₀ from₀ marks order k from = Doing (hit slots fresh) (picked (map (λ n. base + n) (registersFrom layout at)) registers) marks₀ order₀ marked (picked (map (λ n. base + n) (registersFrom layout from)) registers) marks order k
+Inv-loop registers base layout at slots fresh marks₀ order₀ marked k₀ from₀ marks order k from = Doing (hit slots fresh) (wordsAt (map (λ n. base + n) (registersFrom layout at)) registers) marks₀ order₀ marked (wordsAt (map (λ n. base + n) (registersFrom layout from)) registers) marks order k
 
 abbrev μ-loop : tie.MeasureT-loop
 μ-loop registers base layout at slots fresh marks₀ order₀ marked k₀ from₀ marks order k from = length layout - from

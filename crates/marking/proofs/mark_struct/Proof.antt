@@ -1,7 +1,7 @@
 use mathlib.Core.Path.{sym, ap}
 use mathlib.Core.List.{List}
 use Prim.Native.Nat.{ℕ}
-use Rattle.model.specs.Content.{picked}
+use Rattle.model.specs.Content.{wordsAt}
 use Rattle.marking.proofs.Doing.{marks-as}
 use borrow.Author.Needs.{needs}
 use Rattle.marking.proofs.mark_struct.Statement.{statement}
@@ -29,7 +29,7 @@ same-length-2 c = search needs
 
 -- src/lib.rt:226:1
 returns : tie.Need-returns
-returns c = marks-as (ap (λ (ns : List ℕ). picked ns (c .before .before .before .before .before .before .before .before .before .before .before .before .before .before .args .fields .now)) (sym (c .before .before .before .before .before .before .before .struct-section .ensures .fields))) (c .before .before .before .before .mark-fields .ensures)
+returns c = marks-as (ap (λ (ns : List ℕ). wordsAt ns (c .before .before .before .before .before .before .before .before .before .before .before .before .before .before .args .fields .now)) (sym (c .before .before .before .before .before .before .before .struct-section .ensures .fields))) (c .before .before .before .before .mark-fields .ensures)
 
 pub mark-struct-spec : {M : Type 1} → statement M
 mark-struct-spec =

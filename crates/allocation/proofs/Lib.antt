@@ -1,0 +1,3 @@
+pub mod MakeLaws
+pub mod PlainLaws
+pub mod RegionLaws

@@ -1,0 +1,126 @@
+-- Readings of an iterator. Assumes nothing.
+use Prim.Native.Nat.{ℕ, _*_, _+_, _≤_, _<_}
+use mathlib.Core.Path.{_≡_, refl, ap, sym, _∙_}
+use mathlib.Core.Bool.{false, cond}
+use mathlib.Core.List.{List, []}
+use mathlib.Core.Option.{Option, none, some}
+use native.Mathlib.Omega.{arith}
+use lib.Dec.{eqb}
+use lib.ListN.{length}
+use Rattle.slots.specs.Header.{headerAt, scalarsAt}
+use Rattle.slots.specs.declared.Header.{Header}
+use Rattle.slots.specs.declared.Scalars.{Scalars}
+use Rattle.cells.specs.Regions.{rawAt}
+use Rattle.history.proofs.Facts.{eqb-no, eqb-yes}
+use Rattle.layout.specs.Layout.{Layout}
+use Rattle.map_store.specs.Store as Maps
+use Rattle.model.specs.Calls as Calls
+use Rattle.model.specs.Calls.{effect}
+use Rattle.model.specs.Content.{Content, Iterator, array, box, cell, closure, coroutine, error, integer, iterator, map-object, row, string, struct}
+use Rattle.model.specs.View.{look}
+use Rattle.model.specs.Replies.{Reply, array-cursor, map-cursor, nothing, number, perhaps, truth}
+use Rattle.model.specs.Model.{viewOf}
+use Rattle.model.specs.Terms.{cursorReply, lastKey, readOr, terms, uncharged}
+use Rattle.heap.specs.declared.Located.{Located}
+use Rattle.heap.specs.declared.Located.the-variants as L
+use Rattle.heap.specs.declared.Refusal.{Refusal}
+use Rattle.heap.specs.declared.Reading.{Reading}
+use Rattle.heap.specs.declared.Reading.the-variants as Read
+use Rattle.heap.specs.Answers.{answered, readingIs, refused}
+use Rattle.heap.specs.Kinds.{cursorOf, yes}
+use Rattle.heap.specs.Kinds as Kinds
+use Rattle.heap.specs.Locating.{Locates, Ranks}
+use Rattle.heap.specs.State.{State, modelOf, moreOf, rawOf}
+use Rattle.heap.specs.Good.{Good}
+use Rattle.heap.specs.Promise.{Performs, Reads}
+use Rattle.heap.proofs.CallLaws.{row-read}
+use Rattle.heap.proofs.KindLaws.{says-iterator}
+use Rattle.heap.proofs.ReachLaws.{Target, located-at, scalars-fit}
+use Rattle.heap.proofs.ReadLaws.{reads-iterator}
+use Rattle.collections.specs.Words.{WordOf}
+use Rattle.collections.proofs.ReadingLaws.{first-word, row-answered, row-flag, row-flag-refused, row-number, row-refused}
+
+-- ---- one number of an iterator
+
+module _ {t : State} {w : ℕ} {r : Reading} (g : Good t) where
+  pub source-read : WordOf (t .slots) (t .slots) (t .heap .fresh) w 10 2 r → Reads (Calls.iter-source w) t (readingIs r)
+  unfolding terms effect uncharged rawAt headerAt
+  source-read d = row-number g record { effect-is = λ l. refl; terms-are = λ l. refl } says-iterator d (λ i o l. ap number (reads-iterator l 0 (λ x. x .source) o))
+
+  pub keys-read : WordOf (t .slots) (t .slots) (t .heap .fresh) w 10 3 r → Reads (Calls.iter-key-type w) t (readingIs r)
+  unfolding terms effect uncharged rawAt headerAt
+  keys-read d = row-number g record { effect-is = λ l. refl; terms-are = λ l. refl } says-iterator d (λ i o l. ap number (reads-iterator l 0 (λ x. x .keyType) o))
+
+  pub ended-read : {n : ℕ} → WordOf (t .slots) (t .scalars) (t .heap .fresh) w 10 0 r → r ≡ Read.Is n → Reads (Calls.iter-ended w) t (answered (truth (yes n)))
+  unfolding terms effect uncharged scalarsAt
+  ended-read d e =
+      row-flag g record { effect-is = λ l. refl; terms-are = λ l. refl } says-iterator d e
+      (λ i o l. ap truth (reads-iterator l false (λ x. x .ended) o ∙ ap yes (first-word (t .scalars) i)))
+
+  pub ended-refused : {q : Refusal} → WordOf (t .slots) (t .scalars) (t .heap .fresh) w 10 0 r → r ≡ Read.Refused q → Reads (Calls.iter-ended w) t (refused q)
+  unfolding terms effect uncharged
+  ended-refused d e = row-flag-refused g record { effect-is = λ l. refl; terms-are = λ l. refl } says-iterator d e
+
+-- ---- an iterator that is located
+
+-- its cursor, by the row of what it goes over
+cursor-reply : (x : Iterator) (o : Option Content) → cursorReply x o ≡ cond (eqb (readOr 0 row o) 6) (array-cursor (x .cursor .pos)) (map-cursor (x .cursor))
+unfolding cursorReply readOr row
+cursor-reply x none = refl
+cursor-reply x (some (string a)) = refl
+cursor-reply x (some (integer a)) = refl
+cursor-reply x (some (cell a)) = refl
+cursor-reply x (some (error a)) = refl
+cursor-reply x (some (box a)) = refl
+cursor-reply x (some (array a)) = refl
+cursor-reply x (some (map-object a)) = refl
+cursor-reply x (some (struct a)) = refl
+cursor-reply x (some (closure a)) = refl
+cursor-reply x (some (iterator a)) = refl
+cursor-reply x (some (coroutine a)) = refl
+
+module _ {t : State} {w i : ℕ} {r : Located} (g : Good t) (d : Locates (t .slots) (t .heap .fresh) w 10 r) (e : r ≡ L.At i) where
+  pub iterator-scalars-fit : (i < 65536) × (i * 8 + 8 ≤ length (t .scalars))
+  iterator-scalars-fit = scalars-fit g (located-at g d e .reached)
+
+  module _ {x : Scalars} (p : x ≡ scalarsAt (t .scalars) i) where
+    pub cursor-fits : x .g < 4294967296
+    cursor-fits = let o = located-at g d e in rw p (g .each i (o .reached .within) .iterator (o .kind-is) .1)
+
+    key-is : (l : Layout) → lastKey (modelOf l t) w ≡ Kinds.perhaps (x .b) (x .c)
+    unfolding lastKey
+    key-is l = reads-iterator l none (λ y. y .key) (located-at g d e) ∙ rw p
+
+    pub key-none : x .b ≡ 0 → Reads (Calls.iter-key w) t (answered (perhaps none))
+    unfolding terms effect uncharged
+    key-none z = row-answered g record { effect-is = λ l. refl; terms-are = λ l. refl } says-iterator (located-at g d e) (λ l. ap perhaps (key-is l ∙ rw (eqb-yes (x .b) 0 z)))
+
+    pub key-some : (x .b ≡ 0 → ⊥) → Reads (Calls.iter-key w) t (answered (perhaps (some (x .c))))
+    unfolding terms effect uncharged
+    key-some z = row-answered g record { effect-is = λ l. refl; terms-are = λ l. refl } says-iterator (located-at g d e) (λ l. ap perhaps (key-is l ∙ rw (eqb-no (x .b) 0 z)))
+
+    module _ {h : Header} {n : ℕ} (a : h ≡ headerAt (t .slots) i) (k : Ranks (t .slots) (t .heap .fresh) (h .value) n) where
+      cursor-is : (l : Layout) → (terms (modelOf l t) (Calls.iter-cursor w)) .answer ≡ cond (eqb n 6) (array-cursor (x .f)) (map-cursor (cursorOf x))
+      unfolding terms uncharged rawAt
+      cursor-is l =
+          reads-iterator l nothing (λ y. cursorReply y (look (viewOf (modelOf l t)) (y .source))) (located-at g d e)
+          ∙ rw (← a) (cursor-reply _ (look (viewOf (modelOf l t)) (h .value)) ∙ rw (row-read l g k, p))
+
+      pub cursor-index : n ≡ 6 → Reads (Calls.iter-cursor w) t (answered (array-cursor (x .f)))
+      unfolding terms effect uncharged
+      cursor-index z = row-answered g record { effect-is = λ l. refl; terms-are = λ l. refl } says-iterator (located-at g d e) (λ l. cursor-is l ∙ rw (eqb-yes n 6 z))
+
+      pub cursor-map : {c : Maps.Cursor} → (n ≡ 6 → ⊥) → c ≡ cursorOf x → Reads (Calls.iter-cursor w) t (answered (map-cursor c))
+      unfolding terms effect uncharged
+      cursor-map z y = row-answered g record { effect-is = λ l. refl; terms-are = λ l. refl } says-iterator (located-at g d e) (λ l. cursor-is l ∙ rw (eqb-no n 6 z, y))
+
+-- ---- 1 and 2
+
+module _ {t : State} {w : ℕ} {r : Located} {q : Refusal} (g : Good t) (d : Locates (t .slots) (t .heap .fresh) w 10 r) (e : r ≡ L.Refused q) where
+  pub key-refused : Reads (Calls.iter-key w) t (refused q)
+  unfolding terms effect uncharged
+  key-refused = row-refused g record { effect-is = λ l. refl; terms-are = λ l. refl } says-iterator d e
+
+  pub cursor-refused : Reads (Calls.iter-cursor w) t (refused q)
+  unfolding terms effect uncharged
+  cursor-refused = row-refused g record { effect-is = λ l. refl; terms-are = λ l. refl } says-iterator d e

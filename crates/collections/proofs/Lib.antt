@@ -1,0 +1,10 @@
+pub mod ReadingLaws
+pub mod RegionLaws
+pub mod MapLaws
+pub mod IteratorLaws
+pub mod WriteLaws
+pub mod ItemLaws
+pub mod ArrayLaws
+pub mod MapStoreLaws
+pub mod ChargeLaws
+pub mod VisitLaws

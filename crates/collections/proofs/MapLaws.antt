@@ -1,0 +1,270 @@
+-- Readings of a map. Assumes nothing.
+use Prim.Native.Nat.{ℕ, _+_, _*_, _≤_, _<_}
+use mathlib.Core.Path.{_≡_, refl, ap, sym, _∙_}
+use mathlib.Core.Bool.{Bool, true, false, cond, not}
+use mathlib.Core.List.{List, [], _∷_}
+use mathlib.Core.Option.{Option, none, some}
+use native.Mathlib.Omega.{arith}
+use lib.Dec.{eqb, ltb}
+use borrow.Author.Tests.{ltb-false, ltb-true}
+use lib.IntN.{ℤ}
+use lib.ListN.{getD, length}
+use Rattle.slots.specs.Header.{headerAt, scalarsAt}
+use Rattle.slots.specs.Signed.{signed64}
+use Rattle.slots.specs.declared.Header.{Header}
+use Rattle.slots.specs.declared.Scalars.{Scalars}
+use Rattle.cells.specs.Regions.{Raw, rawAt, regionOf}
+use Rattle.history.proofs.Facts.{eqb-no, eqb-yes}
+use Rattle.layout.specs.Layout.{Layout, isTraced}
+use Rattle.map_store.specs.Store as Maps
+use Rattle.map_store.specs.Entries.{length-entries}
+use Rattle.map_store.specs.Map as Map
+use Rattle.map_store.specs.View.{cursorIs, entryIs, gotIs, nextIs, notedOf, position, stepIs, storeOf}
+use Rattle.map_store.specs.View as View
+use Rattle.map_store.specs.declared.Found.{Found}
+use Rattle.map_store.specs.declared.Found.the-variants as F
+use Rattle.map_store.specs.declared.Got.{Got}
+use Rattle.map_store.specs.declared.Got.the-variants as G
+use Rattle.map_store.specs.declared.MapStore.{MapStore}
+use Rattle.map_store.specs.declared.NextKey.{NextKey}
+use Rattle.map_store.specs.declared.NextKey.the-variants as N
+use Rattle.map_store.specs.declared.Stepped.{Stepped}
+use Rattle.map_store.specs.declared.Stored.{Stored}
+use Rattle.model.specs.Calls as Calls
+use Rattle.model.specs.Calls.{Call, effect}
+use Rattle.model.specs.Replies.{cursor-at, entry-is, next-integer, noted, nothing, number, perhaps, reply, truth}
+use Rattle.model.specs.Slots as Slots
+use Rattle.model.specs.Refusals.{inside}
+use Rattle.model.specs.Terms.{a-map, growth, keyTraced, mapStore, terms, uncharged}
+use Rattle.heap.specs.declared.Located.{Located}
+use Rattle.heap.specs.declared.Located.the-variants as L
+use Rattle.heap.specs.declared.Refusal.{Refusal}
+use Rattle.heap.specs.declared.Refusal.the-variants as No
+use Rattle.heap.specs.declared.Reading.{Reading}
+use Rattle.heap.specs.declared.Reading.the-variants as Read
+use Rattle.heap.specs.Answers.{answered, numberOf, readingIs, refused}
+use Rattle.heap.specs.Kinds.{mapOf, yes}
+use Rattle.heap.specs.Locating.{Locates}
+use Rattle.heap.specs.State.{State, modelOf, moreOf, rawOf}
+use Rattle.heap.specs.Good.{Good}
+use Rattle.heap.specs.Promise.{Performs, Reads}
+use Rattle.heap.proofs.KindLaws.{room-map, says-map}
+use Rattle.heap.proofs.ReachLaws.{Target, located-at, reached-room, scalars-fit, slot-fits}
+use Rattle.heap.proofs.ReadLaws.{object-answered, object-inside, object-outside, object-refused, reads-keyTraced, reads-map, reads-mapStore}
+use Rattle.collections.specs.Words.{WordOf, mapFrom}
+use Rattle.collections.proofs.ReadingLaws.{first-word, row-answered, row-flag, row-flag-refused, row-number, row-refused}
+
+-- ---- one number of a map
+
+module _ {t : State} {w : ℕ} (g : Good t) where
+  -- what the store says of its parts
+  module _ {i : ℕ} (o : Target t w i 7) where
+    pub map-living : (l : Layout) → Maps.living (mapStore (modelOf l t) w) ≡ moreOf t i .h
+    map-living l = ap Maps.living (reads-mapStore l o) ∙ sym (g .each i (o .reached .within) .map (o .kind-is) .0 .live)
+
+    pub map-places : (l : Layout) → Maps.places (mapStore (modelOf l t) w) ≡ rawOf t i .len
+    map-places l = ap Maps.places (reads-mapStore l o) ∙ length-entries (rawOf t i .cells) 0 (rawOf t i .len)
+
+    pub map-room : (l : Layout) → Slots.roomOf ((modelOf l t) .table) w ≡ record { capacity = rawOf t i .value; index = rawOf t i .mode }
+    map-room l = reached-room (o .reached) l ∙ room-map (rawOf t i) (o .kind-is)
+
+  module _ {r : Reading} where
+    pub live-read : WordOf (t .slots) (t .scalars) (t .heap .fresh) w 7 7 r → Reads (Calls.live-count w) t (readingIs r)
+    unfolding terms effect uncharged scalarsAt
+    live-read d = row-number g record { effect-is = λ l. refl; terms-are = λ l. refl } says-map d (λ i o l. ap number (map-living o l))
+
+    pub places-read : WordOf (t .slots) (t .slots) (t .heap .fresh) w 7 4 r → Reads (Calls.place-count w) t (readingIs r)
+    unfolding terms effect uncharged rawAt headerAt
+    places-read d = row-number g record { effect-is = λ l. refl; terms-are = λ l. refl } says-map d (λ i o l. ap number (map-places o l))
+
+    pub key-type-read : WordOf (t .slots) (t .scalars) (t .heap .fresh) w 7 0 r → Reads (Calls.key-type w) t (readingIs r)
+    unfolding terms effect uncharged scalarsAt
+    key-type-read d = row-number g record { effect-is = λ l. refl; terms-are = λ l. refl } says-map d (λ i o l. ap number (reads-map l 0 (λ m. m .keyType) o ∙ first-word (t .scalars) i))
+
+    pub value-type-read : WordOf (t .slots) (t .scalars) (t .heap .fresh) w 7 1 r → Reads (Calls.value-type w) t (readingIs r)
+    unfolding terms effect uncharged scalarsAt
+    value-type-read d = row-number g record { effect-is = λ l. refl; terms-are = λ l. refl } says-map d (λ i o l. ap number (reads-map l 0 (λ m. m .valueType) o))
+
+    pub epoch-read : WordOf (t .slots) (t .scalars) (t .heap .fresh) w 7 6 r → Reads (Calls.map-epoch w) t (readingIs r)
+    unfolding terms effect uncharged scalarsAt
+    epoch-read d = row-number g record { effect-is = λ l. refl; terms-are = λ l. refl } says-map d (λ i o l. ap (λ (s : Maps.Store). number (s .epoch)) (reads-mapStore l o))
+
+    pub sequence-read : WordOf (t .slots) (t .scalars) (t .heap .fresh) w 7 5 r → Reads (Calls.next-sequence w) t (readingIs r)
+    unfolding terms effect uncharged scalarsAt
+    sequence-read d = row-number g record { effect-is = λ l. refl; terms-are = λ l. refl } says-map d (λ i o l. ap (λ (s : Maps.Store). number (s .nextSeq)) (reads-mapStore l o))
+
+    pub capacity-read : WordOf (t .slots) (t .slots) (t .heap .fresh) w 7 2 r → Reads (Calls.entry-capacity w) t (readingIs r)
+    unfolding terms effect uncharged rawAt headerAt
+    capacity-read d = row-number g record { effect-is = λ l. refl; terms-are = λ l. refl } says-map d (λ i o l. ap (λ (q : Maps.Room). number (q .capacity)) (map-room o l))
+
+    pub index-read : WordOf (t .slots) (t .slots) (t .heap .fresh) w 7 3 r → Reads (Calls.index-length w) t (readingIs r)
+    unfolding terms effect uncharged rawAt headerAt
+    index-read d = row-number g record { effect-is = λ l. refl; terms-are = λ l. refl } says-map d (λ i o l. ap (λ (q : Maps.Room). number (q .index)) (map-room o l))
+
+    pub hashed-read : {n : ℕ} → WordOf (t .slots) (t .scalars) (t .heap .fresh) w 7 2 r → r ≡ Read.Is n → Reads (Calls.is-hashed w) t (answered (truth (yes n)))
+    unfolding terms effect uncharged scalarsAt
+    hashed-read d e = row-flag g record { effect-is = λ l. refl; terms-are = λ l. refl } says-map d e (λ i o l. ap (λ (s : Maps.Store). truth (s .hashed)) (reads-mapStore l o))
+
+    pub hashed-refused : {q : Refusal} → WordOf (t .slots) (t .scalars) (t .heap .fresh) w 7 2 r → r ≡ Read.Refused q → Reads (Calls.is-hashed w) t (refused q)
+    unfolding terms effect uncharged
+    hashed-refused d e = row-flag-refused g record { effect-is = λ l. refl; terms-are = λ l. refl } says-map d e
+
+-- ---- an entry read
+
+pub entry-inside : (pos : ℕ) (s : Maps.Store) {e : Maps.Entry} → some e ≡ Maps.entryRead pos s → (pos < Maps.places s) × (Maps.entryOf s pos ≡ e)
+unfolding Maps.entryRead
+entry-inside pos s {e} h = go (ltb pos (Maps.places s)) refl h
+  where
+    go : (b : Bool) → ltb pos (Maps.places s) ≡ b → some e ≡ cond b (some (Maps.entryOf s pos)) none → (pos < Maps.places s) × (Maps.entryOf s pos ≡ e)
+    go true z h = (ltb-true pos (Maps.places s) z, (cc))
+    go false z h = absurd (let y : _≡_ {A = ℕ} 0 1 = cc in omega arith)
+
+pub entry-beyond : (pos : ℕ) (s : Maps.Store) → none ≡ Maps.entryRead pos s → Maps.places s ≤ pos
+unfolding Maps.entryRead
+entry-beyond pos s h = go (ltb pos (Maps.places s)) refl h
+  where
+    go : (b : Bool) → ltb pos (Maps.places s) ≡ b → none ≡ cond b (some (Maps.entryOf s pos)) none → Maps.places s ≤ pos
+    go true z h = absurd (let y : _≡_ {A = ℕ} 0 1 = cc in omega arith)
+    go false z h = ltb-false pos (Maps.places s) z
+
+-- ---- the noted key
+
+noted-by : (n : ℕ) (z : ℤ) → notedOf (yes n) z ≡ cond (eqb n 0) none (some z)
+noted-by n z = go (eqb n 0)
+  where
+    go : (b : Bool) → notedOf (not b) z ≡ cond b none (some z)
+    go true = refl
+    go false = refl
+
+-- ---- a map that is located
+
+-- slot i holds the map that w reaches: its header, its scalars, its record and its cells
+pub record MapHere (t : State) (w i : ℕ) (h : Header) (x : Scalars) (s : MapStore) (c : List ℕ) : Type 0 where
+  pub good : Good t
+  pub target : Target t w i 7
+  pub header : h ≡ headerAt (t .slots) i
+  pub scalars : x ≡ scalarsAt (t .scalars) i
+  pub map : s ≡ mapFrom h x
+  pub cells : c ≡ regionOf h (t .cells)
+
+module _ {t : State} {w i : ℕ} {r : Located} (g : Good t) (d : Locates (t .slots) (t .heap .fresh) w 7 r) (e : r ≡ L.At i) where
+  pub map-scalars-fit : (i < 65536) × (i * 8 + 8 ≤ length (t .scalars))
+  map-scalars-fit = scalars-fit g (located-at g d e .reached)
+
+  pub map-epoch-fits : {x : Scalars} → x ≡ scalarsAt (t .scalars) i → x .g < 4294967296
+  map-epoch-fits p = let o = located-at g d e in rw p (g .each i (o .reached .within) .map (o .kind-is) .2)
+
+  pub map-region-fits : {h : Header} → h ≡ headerAt (t .slots) i → h .start + h .size ≤ length (t .cells)
+  map-region-fits p = rw p (g .laid .inside i (located-at g d e .reached .within))
+
+  pub map-here : {h : Header} {x : Scalars} {s : MapStore} {c : List ℕ} → h ≡ headerAt (t .slots) i → x ≡ scalarsAt (t .scalars) i → s ≡ mapFrom h x → c ≡ regionOf h (t .cells) → MapHere t w i h x s c
+  map-here a b m n = record { good = g; target = located-at g d e; header = a; scalars = b; map = m; cells = n }
+
+module _ {t : State} {w i : ℕ} {h : Header} {x : Scalars} {s : MapStore} {c : List ℕ} (m : MapHere t w i h x s c) where
+  pub here-good : Map.Good s c
+  unfolding rawAt
+  here-good = rw (m .map, m .cells, m .header, m .scalars) (m .good .each i (m .target .reached .within) .map (m .target .kind-is) .0)
+
+  pub here-store : (l : Layout) → mapStore (modelOf l t) w ≡ storeOf s c
+  unfolding rawAt
+  here-store l = reads-mapStore l (m .target) ∙ rw (m .map, m .cells, m .header, m .scalars)
+
+  pub here-traced : (l : Layout) → keyTraced (modelOf l t) w ≡ isTraced (x .a)
+  here-traced l = reads-keyTraced l (m .target) ∙ rw (m .scalars)
+
+  pub here-room : (l : Layout) → Slots.roomOf ((modelOf l t) .table) w ≡ View.roomOf s
+  unfolding rawAt
+  here-room l = map-room (m .good) (m .target) l ∙ rw (m .map, m .header)
+
+  -- ---- what the calls answer
+
+  pub find-at : {f : Found} {b : Bool} {hash key pos : ℕ} → b ≡ isTraced (x .a) → position f ≡ Maps.find b hash key (storeOf s c) → f ≡ F.At pos → Reads (Calls.find w hash key) t (answered (perhaps (some pos)))
+  unfolding terms effect uncharged
+  find-at {hash = hash} {key = key} b f e =
+      row-answered (m .good) record { effect-is = λ l. refl; terms-are = λ l. refl } says-map (m .target)
+      (λ l. ap perhaps (rw (here-traced l, here-store l, ← b) (sym f ∙ ap position e)))
+
+  pub find-nothing : {f : Found} {b : Bool} {hash key : ℕ} → b ≡ isTraced (x .a) → position f ≡ Maps.find b hash key (storeOf s c) → f ≡ F.Nothing → Reads (Calls.find w hash key) t (answered (perhaps none))
+  unfolding terms effect uncharged
+  find-nothing b f e =
+      row-answered (m .good) record { effect-is = λ l. refl; terms-are = λ l. refl } says-map (m .target)
+      (λ l. ap perhaps (rw (here-traced l, here-store l, ← b) (sym f ∙ ap position e)))
+
+  pub growth-read : {b : Bool} {key n : ℕ} → b ≡ isTraced (x .a) → n ≡ Maps.growthBytes (t .heap .weights .entry) b key (storeOf s c) (View.roomOf s) → Reads (Calls.growth-bytes w key) t (answered (number n))
+  unfolding terms effect uncharged growth modelOf
+  growth-read b e =
+      row-answered (m .good) record { effect-is = λ l. refl; terms-are = λ l. refl } says-map (m .target)
+      (λ l. ap number (rw (here-traced l, here-store l, here-room l, ← b) (sym e)))
+
+  pub next-is : {n : NextKey} {k : ℤ} → nextIs n ≡ Maps.nextKey (storeOf s c) → n ≡ N.Key k → Reads (Calls.next-key w) t (answered (next-integer (some k)))
+  unfolding terms effect uncharged
+  next-is f e =
+      row-answered (m .good) record { effect-is = λ l. refl; terms-are = λ l. refl } says-map (m .target)
+      (λ l. ap next-integer (rw (here-store l) (sym f ∙ ap nextIs e)))
+
+  pub next-past : {n : NextKey} → nextIs n ≡ Maps.nextKey (storeOf s c) → n ≡ N.Past → Reads (Calls.next-key w) t (answered (next-integer none))
+  unfolding terms effect uncharged
+  next-past f e =
+      row-answered (m .good) record { effect-is = λ l. refl; terms-are = λ l. refl } says-map (m .target)
+      (λ l. ap next-integer (rw (here-store l) (sym f ∙ ap nextIs e)))
+
+  -- an entry inside, or 3
+  pub entry-at : {n : Got} {e : Stored} {pos : ℕ} → gotIs n ≡ Maps.entryRead pos (storeOf s c) → n ≡ G.Place e → Reads (Calls.read-entry w pos) t (answered (entry-is (entryIs e)))
+  unfolding terms effect uncharged
+  entry-at {pos = pos} f e l =
+      let z = entry-inside pos (storeOf s c) (sym (ap gotIs e) ∙ f) in
+      object-inside l (m .good) (Calls.read-entry w pos) (m .target) says-map {p = pos} {n = Maps.places (mapStore (modelOf l t) w)} refl (rw (here-store l) (z .0)) refl refl refl (ap entry-is (rw (here-store l) (z .1)))
+
+  pub entry-outside : {n : Got} {pos : ℕ} → gotIs n ≡ Maps.entryRead pos (storeOf s c) → n ≡ G.Outside → Reads (Calls.read-entry w pos) t (refused No.Outside)
+  unfolding terms effect uncharged
+  entry-outside {pos = pos} f e l =
+      object-outside l (m .good) (Calls.read-entry w pos) (m .target) says-map {p = pos} {n = Maps.places (mapStore (modelOf l t) w)} refl (rw (here-store l) (entry-beyond pos (storeOf s c) (sym (ap gotIs e) ∙ f))) refl
+
+  pub step-read : {z : Maps.Cursor} (n : Stepped) → stepIs n ≡ Maps.nextOf (storeOf s c) z → Reads (Calls.next w z) t record { refusal = 0; answer = reply (perhaps (position (n .found))); lent = cursor-at (cursorIs (n .cursor)) }
+  unfolding terms effect
+  step-read {z} n f l =
+      object-answered l (m .good) (Calls.next w z) (m .target) says-map refl refl refl
+      (ap cursor-at (rw (here-store l) (ap (λ (q : Maps.Step). q .cursor) (sym f)))) (ap perhaps (rw (here-store l) (ap (λ (q : Maps.Step). q .answer) (sym f))))
+
+-- ---- the noted key of a map that is located
+
+module _ {t : State} {w i : ℕ} {x : Scalars} {r : Located} (g : Good t) (d : Locates (t .slots) (t .heap .fresh) w 7 r) (e : r ≡ L.At i) (p : x ≡ scalarsAt (t .scalars) i) where
+  noted-is : (l : Layout) → (mapStore (modelOf l t) w) .noted ≡ cond (eqb (x .d) 0) none (some (signed64 (x .e)))
+  noted-is l = ap (λ (s : Maps.Store). s .noted) (reads-mapStore l (located-at g d e)) ∙ rw p (noted-by (scalarsAt (t .scalars) i .d) (signed64 (scalarsAt (t .scalars) i .e)))
+
+  pub noted-nothing : x .d ≡ 0 → Reads (Calls.noted-key w) t (answered (noted none))
+  unfolding terms effect uncharged
+  noted-nothing z =
+      row-answered g record { effect-is = λ l. refl; terms-are = λ l. refl } says-map (located-at g d e) (λ l. ap noted (noted-is l ∙ rw (eqb-yes (x .d) 0 z)))
+
+  pub noted-some : {k : ℤ} → (x .d ≡ 0 → ⊥) → k ≡ signed64 (x .e) → Reads (Calls.noted-key w) t (answered (noted (some k)))
+  unfolding terms effect uncharged
+  noted-some z k =
+      row-answered g record { effect-is = λ l. refl; terms-are = λ l. refl } says-map (located-at g d e) (λ l. ap noted (noted-is l ∙ rw (eqb-no (x .d) 0 z, k)))
+
+-- ---- 1 and 2
+
+module _ {t : State} {w : ℕ} {r : Located} {q : Refusal} (g : Good t) (d : Locates (t .slots) (t .heap .fresh) w 7 r) (e : r ≡ L.Refused q) where
+  pub find-refused : {hash key : ℕ} → Reads (Calls.find w hash key) t (refused q)
+  unfolding terms effect uncharged
+  find-refused = row-refused g record { effect-is = λ l. refl; terms-are = λ l. refl } says-map d e
+
+  pub growth-refused : {key : ℕ} → Reads (Calls.growth-bytes w key) t (refused q)
+  unfolding terms effect uncharged
+  growth-refused = row-refused g record { effect-is = λ l. refl; terms-are = λ l. refl } says-map d e
+
+  pub next-refused : Reads (Calls.next-key w) t (refused q)
+  unfolding terms effect uncharged
+  next-refused = row-refused g record { effect-is = λ l. refl; terms-are = λ l. refl } says-map d e
+
+  pub noted-refused : Reads (Calls.noted-key w) t (refused q)
+  unfolding terms effect uncharged
+  noted-refused = row-refused g record { effect-is = λ l. refl; terms-are = λ l. refl } says-map d e
+
+  pub entry-refused : {pos : ℕ} → Reads (Calls.read-entry w pos) t (refused q)
+  unfolding terms effect uncharged
+  entry-refused {pos} l = object-refused l g (Calls.read-entry w pos) {rest = inside pos (Maps.places (mapStore (modelOf l t) w)) ∷ []} d e says-map refl refl
+
+  pub step-refused : {z : Maps.Cursor} → Reads (Calls.next w z) t record { refusal = numberOf q; answer = reply nothing; lent = cursor-at z }
+  unfolding terms effect
+  step-refused {z} l = object-refused l g (Calls.next w z) {rest = []} d e says-map refl refl

@@ -1,0 +1,38 @@
+-- A map's record and its cells, written. Assumes nothing.
+use Prim.Native.Nat.{ℕ, _+_, _-_, _*_, _≤_, _<_}
+use mathlib.Core.Path.{_≡_, ap, sym, _∙_}
+use mathlib.Core.List.{List}
+use lib.ListN.{length}
+use mir.Syntax.{w64}
+use mir.Val.{SFits}
+use borrow.Rule.Slice.PartMut.{midOf, putMid}
+use Rattle.slots.specs.Header.{headerAt, scalarsAt, setHeader, setScalars}
+use Rattle.slots.specs.Signed.{bits64}
+use Rattle.slots.specs.declared.Header.{Header}
+use Rattle.slots.specs.declared.Scalars.{Scalars}
+use Rattle.slots.proofs.SignedLaws.{signed-bits}
+use Rattle.cells.specs.Regions.{regionOf}
+use Rattle.map_store.specs.Map as Map
+use Rattle.map_store.specs.declared.MapStore.{MapStore}
+use Rattle.heap.proofs.StepLaws.{OwnCells, own-header, own-scalars, ownWords}
+use Rattle.collections.specs.Words.{MapWritten, flagOf, mapScalars}
+use Rattle.collections.proofs.RegionLaws.{put-own, put-region, region-part}
+
+abbrev scalarsWith : Scalars → ℕ → ℕ → ℕ → MapStore → Scalars
+scalarsWith x c d e s = record { a = x .a; b = x .b; c = c; d = d; e = e; f = s .fresh; g = s .epoch; h = s .live }
+
+pub map-written : {slots scalars slots′ scalars′ : List ℕ} {i c d e : ℕ} {h : Header} {x : Scalars} {s : MapStore} → i * 8 + 8 ≤ length slots → i * 8 + 8 ≤ length scalars →
+    h ≡ headerAt slots i → x ≡ scalarsAt scalars i → c ≡ flagOf (s .hashed) → d ≡ flagOf (s .known) → e ≡ bits64 (s .noted) → SFits w64 (s .noted) → s .epoch < 4294967296 →
+    slots′ ≡ setHeader slots i (ownWords h (s .capacity) (s .index) (s .len)) → scalars′ ≡ setScalars scalars i (scalarsWith x c d e s) → MapWritten slots scalars slots′ scalars′ i s
+map-written {slots} {scalars} {i = i} {s = s} fits fits′ eh ex ec ed ee f g es exs = record {
+  header = own-header fits (es ∙ ap (λ (z : Header). setHeader slots i (ownWords z (s .capacity) (s .index) (s .len))) eh);
+  words = own-scalars fits′ (exs ∙ rw (ex, ec, ed, ee));
+  noted = signed-bits (s .noted) f;
+  epoch = g;
+}
+
+-- an entry's value, set in the map's cells
+pub valued-in : (h : Header) (c : List ℕ) {pos v : ℕ} {s : MapStore} (ys : List ℕ) → h .start + h .size ≤ length c → length ys ≡ length (midOf (h .start) (h .start + h .size - h .start) c) →
+    Map.Valued pos v s (midOf (h .start) (h .start + h .size - h .start) c) ys →
+    OwnCells c (putMid (h .start) (h .start + h .size - h .start) c ys) (h .start) (h .size) × Map.Valued pos v s (regionOf h c) (regionOf h (putMid (h .start) (h .start + h .size - h .start) c ys))
+valued-in h c {pos} {v} {s} ys inside same w = (put-own h c ys inside same, rw (put-region h c ys inside same) (rw (region-part h c) at w))

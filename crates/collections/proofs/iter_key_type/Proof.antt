@@ -1,0 +1,14 @@
+-- `collections::iter_key_type` meets its contract. Assumes nothing.
+use Rattle.collections.proofs.IteratorLaws.{keys-read}
+use borrow.Author.Needs.{needs}
+use Rattle.collections.proofs.iter_key_type.Statement.{statement}
+use Rattle.collections.proofs.iter_key_type.Tie as tie
+
+word-of-requires : tie.Need-word-of-requires
+word-of-requires c κs = search needs
+
+returns : tie.Need-returns
+returns c = keys-read (c .before .before .before .before .before .before .pre) (c .word-of .ensures)
+
+pub iter-key-type-spec : {M : Type 1} → statement M
+iter-key-type-spec = tie.close (tie.spec word-of-requires returns)

@@ -1,0 +1,914 @@
+// Arrays that grow, maps and iterators.
+ghost use mathlib.Core.Path.{_≡_};
+ghost use Prim.Native.Nat.{_+_, _*_, _≤_, _<_};
+ghost use lib.ListN.{length};
+ghost use Rattle.layout.specs.Layout.{isTraced};
+ghost use Rattle.map_store.specs.Map as Map;
+ghost use Rattle.map_store.specs.View.{cursorIs};
+ghost use Rattle.cells.specs.Regions.{regionOf};
+ghost use Rattle.model.specs.Calls as Calls;
+ghost use Rattle.heap.specs.Answers.{doneIs, readingIs, testIs};
+ghost use Rattle.heap.specs.Kinds.{cursorOf};
+ghost use Rattle.heap.specs.State.{state};
+ghost use Rattle.heap.specs.Good.{Good};
+ghost use Rattle.heap.specs.Promise.{Performs, Reads};
+ghost use Rattle.heap.proofs.StepLaws.{OwnCells};
+ghost use Rattle.collections.specs.Answers.{perhapsIs, entrySeen, nextSeen, notedSeen, cursorSeen, stepSeen};
+ghost use Rattle.collections.specs.Words.{WordOf, mapFrom, MapWritten, flagOf, ItemIs, ZeroCharge};
+ghost use Rattle.collections.specs.Visits.{ArrayKnown, MapKnown, Ends, Moves, VisitsArray, VisitsMap, Visits};
+use account::Account;
+use heap::Done;
+use heap::Heap;
+use heap::Located;
+use heap::Reading;
+use heap::Refusal;
+use heap::Test;
+use map_store::Cursor;
+use map_store::Last;
+use map_store::MapStore;
+use slots::Found;
+use slots::Header;
+use slots::Scalars;
+
+// The rows of these kinds in the table of kinds.
+const ARRAY: u64 = 6;
+
+const MAP: u64 = 7;
+
+const ITERATOR: u64 = 10;
+
+const DYNAMIC: u64 = 2;
+
+// A position, an item or a key; or that there is none.
+pub enum Perhaps {
+    Is(u64),
+    Absent,
+    Refused(Refusal),
+}
+
+// A map's greatest noted key.
+pub enum Noted {
+    Is(i64),
+    Nothing,
+    Refused(Refusal),
+}
+
+// The integer key after it.
+pub enum NextInt {
+    Is(i64),
+    Past,
+    Refused(Refusal),
+}
+
+pub enum EntryRead {
+    Is(map_store::Stored),
+    Refused(Refusal),
+}
+
+// An iterator's cursor: over an array its index alone.
+pub enum CursorRead {
+    Index(u64),
+    Map(Cursor),
+    Refused(Refusal),
+}
+
+// A cursor's step by value: the position and the cursor afterwards.
+pub enum Moved {
+    Is(map_store::Stepped),
+    Refused(Refusal),
+}
+
+// The item that an iterator's step visits, or its end.
+enum Visited {
+    Item(u64),
+    End,
+}
+
+// An iterator's step: the scalars afterwards, and the item.
+struct Visit {
+    next: Scalars,
+    item: Visited,
+}
+
+// Word k of the eight that the object of this kind has in `words`, its slot's headers or scalars.
+fn word_of(slots: &[u64], words: &[u64], fresh: u64, w: u64, kind: u64, k: usize) -> Reading
+    requires { ⌜ (fresh ≤ 65536) × (fresh * 8 ≤ length (now slots)) × (fresh * 8 ≤ length (now words)) × (k < 8) ⌝ }
+    ensures { λ r. ⌜ WordOf (now (slots .entry)) (now (words .entry)) fresh w kind k r ⌝ }
+{
+    match heap::locate(slots, fresh, w, kind) {
+        Located::Refused(q) => Reading::Refused(q),
+        Located::At(i) => Reading::Is(words[i * 8 + k]),
+    }
+}
+
+fn traced(t: u64) -> bool
+    ensures { λ r. ⌜ r ≡ isTraced t ⌝ }
+{
+    1 <= t
+}
+
+// The map of a slot with this header and these scalars.
+fn map_of(h: Header, x: Scalars) -> MapStore
+    requires { ⌜ x .g < 4294967296 ⌝ }
+    ensures { λ r. ⌜ r ≡ mapFrom h x ⌝ }
+{
+    MapStore {
+        noted: slots::signed_of(x.e),
+        len: h.len as usize,
+        live: x.h as usize,
+        fresh: x.f,
+        capacity: h.value as usize,
+        index: h.mode as usize,
+        epoch: x.g as u32,
+        hashed: x.c != 0,
+        known: x.d != 0,
+    }
+}
+
+// The cells of a slot with this header.
+fn region(cells: &[u64], h: Header) -> &[u64]
+    requires { ⌜ h .start + h .size ≤ length (now cells) ⌝ }
+    ensures { λ r. ⌜ now r ≡ regionOf h (now (cells .entry)) ⌝ }
+{
+    let from = h.start as usize;
+    let to = from + h.size as usize;
+    &cells[from..to]
+}
+
+// The cursor of an iterator with these scalars.
+fn cursor_of(x: Scalars) -> Cursor
+    requires { ⌜ x .g < 4294967296 ⌝ }
+    ensures { λ r. ⌜ cursorIs r ≡ cursorOf x ⌝ }
+{
+    let pos = x.f as usize;
+    let epoch = x.g as u32;
+    if x.d == 0 {
+        return Cursor {
+            last: Last::Never,
+            pos,
+            epoch,
+        };
+    }
+    Cursor {
+        last: Last::Seq(x.e),
+        pos,
+        epoch,
+    }
+}
+
+// An item as it is pushed, popped or visited: dynamic ones are seen through a box.
+fn item(
+    heap: Heap,
+    slots: &[u64],
+    scalars: &[u64],
+    list: &[u64],
+    directory: &[u64],
+    cells: &[u64],
+    t: u64,
+    w: u64,
+) -> u64
+    requires { ⌜ Good (state heap (now slots) (now scalars) (now list) (now directory) (now cells)) ⌝ }
+    ensures { λ r. ⌜ ItemIs (state heap (now (slots .entry)) (now (scalars .entry)) (now (list .entry)) (now (directory .entry)) (now (cells .entry))) t w r ⌝ }
+{
+    if t == DYNAMIC {
+        return heap::deref(heap, slots, scalars, list, directory, cells, w);
+    }
+    w
+}
+
+// "Zero bytes is a charge too": refused where used exceeds the limit, and it changes nothing.
+fn zero_fits(account: Account) -> bool
+    ensures { λ r. ⌜ ZeroCharge account r ⌝ }
+{
+    account.used <= account.limit
+}
+
+fn flag(b: bool) -> u64
+    ensures { λ r. ⌜ r ≡ flagOf b ⌝ }
+{
+    if b { 1 } else { 0 }
+}
+
+// The map's record, written to the header and the scalars of slot i.
+fn write_map(slots: &mut [u64], scalars: &mut [u64], i: usize, s: MapStore)
+    requires { ⌜ (i < 65536) × (i * 8 + 8 ≤ length (now slots)) × (i * 8 + 8 ≤ length (now scalars)) ⌝ }
+    ensures { λ r. ⌜ MapWritten (now (slots .entry)) (now (scalars .entry)) (now (slots .exit)) (now (scalars .exit)) i s ⌝ }
+{
+    let h = slots::read_header(slots, i);
+    let x = slots::read_scalars(scalars, i);
+    let mut g = h;
+    g.value = s.capacity as u64;
+    g.mode = s.index as u64;
+    g.len = s.len as u64;
+    slots::write_header(slots, i, g);
+    let mut y = x;
+    y.c = flag(s.hashed);
+    y.d = flag(s.known);
+    y.e = slots::bits_of(s.noted);
+    y.f = s.fresh;
+    y.g = s.epoch as u64;
+    y.h = s.live as u64;
+    slots::write_scalars(scalars, i, y);
+}
+
+// The value of a map's entry, set in the map's cells.
+fn set_value_in(cells: &mut [u64], h: Header, s: MapStore, pos: usize, v: u64)
+    requires inside { ⌜ h .start + h .size ≤ length (now cells) ⌝ }
+    requires good { ⌜ Map.Good s (regionOf h (now cells)) ⌝ }
+    ensures own { λ r. ⌜ OwnCells (now (cells .entry)) (now (cells .exit)) (h .start) (h .size) ⌝ }
+    ensures value { λ r. ⌜ Map.Valued pos v s (regionOf h (now (cells .entry))) (regionOf h (now (cells .exit))) ⌝ }
+{
+    let from = h.start as usize;
+    let to = from + h.size as usize;
+    map_store::set_value(s, &mut cells[from..to], pos, v);
+}
+
+// The step of an iterator that has come to its end.
+fn ended(x: Scalars) -> Visit
+    ensures { λ r. ⌜ Ends x r ⌝ }
+{
+    let mut y = x;
+    y.a = 1;
+    Visit {
+        next: y,
+        item: Visited::End,
+    }
+}
+
+// The scalars of an iterator after a step onto an item with this key.
+fn moved_to(c: Cursor, key: u64) -> Scalars
+    ensures { λ r. ⌜ Moves (cursorIs c) key r ⌝ }
+{
+    let f = c.pos as u64;
+    let g = c.epoch as u64;
+    let last = c.last;
+    match last {
+        Last::Never => Scalars {
+            a: 0,
+            b: 1,
+            c: key,
+            d: 0,
+            e: 0,
+            f,
+            g,
+            h: 0,
+        },
+        Last::Seq(q) => Scalars {
+            a: 0,
+            b: 1,
+            c: key,
+            d: 1,
+            e: q,
+            f,
+            g,
+            h: 0,
+        },
+    }
+}
+
+// The step of an iterator over the array with this header.
+fn visit_array(
+    heap: Heap,
+    slots: &[u64],
+    scalars: &[u64],
+    list: &[u64],
+    directory: &[u64],
+    cells: &[u64],
+    h: Header,
+    x: Scalars,
+) -> Visit
+    requires good { ⌜ Good (state heap (now slots) (now scalars) (now list) (now directory) (now cells)) ⌝ }
+    requires array { ⌜ ArrayKnown (state heap (now slots) (now scalars) (now list) (now directory) (now cells)) h ⌝ }
+    requires epoch { ⌜ x .g < 4294967296 ⌝ }
+    ensures { λ r. ⌜ VisitsArray (state heap (now (slots .entry)) (now (scalars .entry)) (now (list .entry)) (now (directory .entry)) (now (cells .entry))) h x r ⌝ }
+{
+    if h.len <= x.f {
+        return ended(x);
+    }
+    let at = (h.start + x.f) as usize;
+    let w = item(
+        heap,
+        slots,
+        scalars,
+        list,
+        directory,
+        cells,
+        h.mode,
+        cells[at],
+    );
+    let c = Cursor {
+        last: Last::Never,
+        pos: (x.f + 1) as usize,
+        epoch: 0,
+    };
+    Visit {
+        next: moved_to(c, x.f),
+        item: Visited::Item(w),
+    }
+}
+
+// The step of an iterator over the map with this header and these scalars.
+fn visit_map(
+    heap: Heap,
+    slots: &[u64],
+    scalars: &[u64],
+    list: &[u64],
+    directory: &[u64],
+    cells: &[u64],
+    h: Header,
+    y: Scalars,
+    x: Scalars,
+) -> Visit
+    requires good { ⌜ Good (state heap (now slots) (now scalars) (now list) (now directory) (now cells)) ⌝ }
+    requires map { ⌜ MapKnown (state heap (now slots) (now scalars) (now list) (now directory) (now cells)) h y ⌝ }
+    requires epoch { ⌜ x .g < 4294967296 ⌝ }
+    ensures { λ r. ⌜ VisitsMap (state heap (now (slots .entry)) (now (scalars .entry)) (now (list .entry)) (now (directory .entry)) (now (cells .entry))) h y x r ⌝ }
+{
+    let m = map_of(h, y);
+    let s = map_store::step(m, region(cells, h), cursor_of(x));
+    let found = s.found;
+    match found {
+        map_store::Found::Nothing => ended(x),
+        map_store::Found::At(p) => match map_store::entry(m, region(cells, h), p) {
+            map_store::Got::Outside => ended(x),
+            map_store::Got::Place(e) => {
+                let w = item(heap, slots, scalars, list, directory, cells, y.b, e.value);
+                let c = s.cursor;
+                Visit {
+                    next: moved_to(c, e.key),
+                    item: Visited::Item(w),
+                }
+            }
+        },
+    }
+}
+
+// The step of an iterator with this source and these scalars: once ended, it stays so.
+fn advance(
+    heap: Heap,
+    slots: &[u64],
+    scalars: &[u64],
+    list: &[u64],
+    directory: &[u64],
+    cells: &[u64],
+    source: u64,
+    x: Scalars,
+) -> Visit
+    requires good { ⌜ Good (state heap (now slots) (now scalars) (now list) (now directory) (now cells)) ⌝ }
+    requires epoch { ⌜ x .g < 4294967296 ⌝ }
+    ensures { λ r. ⌜ Visits (state heap (now (slots .entry)) (now (scalars .entry)) (now (list .entry)) (now (directory .entry)) (now (cells .entry))) source x r ⌝ }
+{
+    if x.a != 0 {
+        return Visit {
+            next: x,
+            item: Visited::End,
+        };
+    }
+    match slots::find(slots, heap.fresh, source) {
+        Found::Nothing => ended(x),
+        Found::Wrong => ended(x),
+        Found::At(j) => {
+            let h = slots::read_header(slots, j);
+            if h.kind == ARRAY {
+                return visit_array(heap, slots, scalars, list, directory, cells, h, x);
+            }
+            if h.kind == MAP {
+                let y = slots::read_scalars(scalars, j);
+                return visit_map(heap, slots, scalars, list, directory, cells, h, y, x);
+            }
+            ended(x)
+        }
+    }
+}
+
+// Live entries.
+pub fn live_count(
+    heap: Heap,
+    slots: &[u64],
+    scalars: &[u64],
+    list: &[u64],
+    directory: &[u64],
+    cells: &[u64],
+    w: u64,
+) -> Reading
+    requires { ⌜ Good (state heap (now slots) (now scalars) (now list) (now directory) (now cells)) ⌝ }
+    ensures { λ r. ⌜ Reads (Calls.live-count w) (state heap (now (slots .entry)) (now (scalars .entry)) (now (list .entry)) (now (directory .entry)) (now (cells .entry))) (readingIs r) ⌝ }
+{
+    word_of(slots, scalars, heap.fresh, w, MAP, 7)
+}
+
+// Places, dead ones included.
+pub fn place_count(
+    heap: Heap,
+    slots: &[u64],
+    scalars: &[u64],
+    list: &[u64],
+    directory: &[u64],
+    cells: &[u64],
+    w: u64,
+) -> Reading
+    requires { ⌜ Good (state heap (now slots) (now scalars) (now list) (now directory) (now cells)) ⌝ }
+    ensures { λ r. ⌜ Reads (Calls.place-count w) (state heap (now (slots .entry)) (now (scalars .entry)) (now (list .entry)) (now (directory .entry)) (now (cells .entry))) (readingIs r) ⌝ }
+{
+    word_of(slots, slots, heap.fresh, w, MAP, 4)
+}
+
+// Whether a map is hashed.
+pub fn is_hashed(
+    heap: Heap,
+    slots: &[u64],
+    scalars: &[u64],
+    list: &[u64],
+    directory: &[u64],
+    cells: &[u64],
+    w: u64,
+) -> Test
+    requires { ⌜ Good (state heap (now slots) (now scalars) (now list) (now directory) (now cells)) ⌝ }
+    ensures { λ r. ⌜ Reads (Calls.is-hashed w) (state heap (now (slots .entry)) (now (scalars .entry)) (now (list .entry)) (now (directory .entry)) (now (cells .entry))) (testIs r) ⌝ }
+{
+    match word_of(slots, scalars, heap.fresh, w, MAP, 2) {
+        Reading::Refused(q) => Test::Refused(q),
+        Reading::Is(n) => Test::Is(n != 0),
+    }
+}
+
+// The type of a map's keys.
+pub fn key_type(
+    heap: Heap,
+    slots: &[u64],
+    scalars: &[u64],
+    list: &[u64],
+    directory: &[u64],
+    cells: &[u64],
+    w: u64,
+) -> Reading
+    requires { ⌜ Good (state heap (now slots) (now scalars) (now list) (now directory) (now cells)) ⌝ }
+    ensures { λ r. ⌜ Reads (Calls.key-type w) (state heap (now (slots .entry)) (now (scalars .entry)) (now (list .entry)) (now (directory .entry)) (now (cells .entry))) (readingIs r) ⌝ }
+{
+    word_of(slots, scalars, heap.fresh, w, MAP, 0)
+}
+
+// The type of its values.
+pub fn value_type(
+    heap: Heap,
+    slots: &[u64],
+    scalars: &[u64],
+    list: &[u64],
+    directory: &[u64],
+    cells: &[u64],
+    w: u64,
+) -> Reading
+    requires { ⌜ Good (state heap (now slots) (now scalars) (now list) (now directory) (now cells)) ⌝ }
+    ensures { λ r. ⌜ Reads (Calls.value-type w) (state heap (now (slots .entry)) (now (scalars .entry)) (now (list .entry)) (now (directory .entry)) (now (cells .entry))) (readingIs r) ⌝ }
+{
+    word_of(slots, scalars, heap.fresh, w, MAP, 1)
+}
+
+// A map's epoch: how often it was compacted, in 32 bits.
+pub fn map_epoch(
+    heap: Heap,
+    slots: &[u64],
+    scalars: &[u64],
+    list: &[u64],
+    directory: &[u64],
+    cells: &[u64],
+    w: u64,
+) -> Reading
+    requires { ⌜ Good (state heap (now slots) (now scalars) (now list) (now directory) (now cells)) ⌝ }
+    ensures { λ r. ⌜ Reads (Calls.map-epoch w) (state heap (now (slots .entry)) (now (scalars .entry)) (now (list .entry)) (now (directory .entry)) (now (cells .entry))) (readingIs r) ⌝ }
+{
+    word_of(slots, scalars, heap.fresh, w, MAP, 6)
+}
+
+// The next entry's sequence number.
+pub fn next_sequence(
+    heap: Heap,
+    slots: &[u64],
+    scalars: &[u64],
+    list: &[u64],
+    directory: &[u64],
+    cells: &[u64],
+    w: u64,
+) -> Reading
+    requires { ⌜ Good (state heap (now slots) (now scalars) (now list) (now directory) (now cells)) ⌝ }
+    ensures { λ r. ⌜ Reads (Calls.next-sequence w) (state heap (now (slots .entry)) (now (scalars .entry)) (now (list .entry)) (now (directory .entry)) (now (cells .entry))) (readingIs r) ⌝ }
+{
+    word_of(slots, scalars, heap.fresh, w, MAP, 5)
+}
+
+// The capacity of a map's entry list.
+pub fn entry_capacity(
+    heap: Heap,
+    slots: &[u64],
+    scalars: &[u64],
+    list: &[u64],
+    directory: &[u64],
+    cells: &[u64],
+    w: u64,
+) -> Reading
+    requires { ⌜ Good (state heap (now slots) (now scalars) (now list) (now directory) (now cells)) ⌝ }
+    ensures { λ r. ⌜ Reads (Calls.entry-capacity w) (state heap (now (slots .entry)) (now (scalars .entry)) (now (list .entry)) (now (directory .entry)) (now (cells .entry))) (readingIs r) ⌝ }
+{
+    word_of(slots, slots, heap.fresh, w, MAP, 2)
+}
+
+// The length of its index.
+pub fn index_length(
+    heap: Heap,
+    slots: &[u64],
+    scalars: &[u64],
+    list: &[u64],
+    directory: &[u64],
+    cells: &[u64],
+    w: u64,
+) -> Reading
+    requires { ⌜ Good (state heap (now slots) (now scalars) (now list) (now directory) (now cells)) ⌝ }
+    ensures { λ r. ⌜ Reads (Calls.index-length w) (state heap (now (slots .entry)) (now (scalars .entry)) (now (list .entry)) (now (directory .entry)) (now (cells .entry))) (readingIs r) ⌝ }
+{
+    word_of(slots, slots, heap.fresh, w, MAP, 3)
+}
+
+// A map's greatest noted key.
+pub fn noted_key(
+    heap: Heap,
+    slots: &[u64],
+    scalars: &[u64],
+    list: &[u64],
+    directory: &[u64],
+    cells: &[u64],
+    w: u64,
+) -> Noted
+    requires { ⌜ Good (state heap (now slots) (now scalars) (now list) (now directory) (now cells)) ⌝ }
+    ensures { λ r. ⌜ Reads (Calls.noted-key w) (state heap (now (slots .entry)) (now (scalars .entry)) (now (list .entry)) (now (directory .entry)) (now (cells .entry))) (notedSeen r) ⌝ }
+{
+    match heap::locate(slots, heap.fresh, w, MAP) {
+        Located::Refused(q) => Noted::Refused(q),
+        Located::At(i) => {
+            let x = slots::read_scalars(scalars, i);
+            if x.d == 0 {
+                return Noted::Nothing;
+            }
+            Noted::Is(slots::signed_of(x.e))
+        }
+    }
+}
+
+// The integer key after the greatest noted one.
+pub fn next_key(
+    heap: Heap,
+    slots: &[u64],
+    scalars: &[u64],
+    list: &[u64],
+    directory: &[u64],
+    cells: &[u64],
+    w: u64,
+) -> NextInt
+    requires { ⌜ Good (state heap (now slots) (now scalars) (now list) (now directory) (now cells)) ⌝ }
+    ensures { λ r. ⌜ Reads (Calls.next-key w) (state heap (now (slots .entry)) (now (scalars .entry)) (now (list .entry)) (now (directory .entry)) (now (cells .entry))) (nextSeen r) ⌝ }
+{
+    match heap::locate(slots, heap.fresh, w, MAP) {
+        Located::Refused(q) => NextInt::Refused(q),
+        Located::At(i) => {
+            let h = slots::read_header(slots, i);
+            let x = slots::read_scalars(scalars, i);
+            match map_store::next_int(map_of(h, x), region(cells, h)) {
+                map_store::NextKey::Past => NextInt::Past,
+                map_store::NextKey::Key(k) => NextInt::Is(k),
+            }
+        }
+    }
+}
+
+// The bytes that an insertion of this key is charged.
+pub fn growth_bytes(
+    heap: Heap,
+    slots: &[u64],
+    scalars: &[u64],
+    list: &[u64],
+    directory: &[u64],
+    cells: &[u64],
+    w: u64,
+    key: u64,
+) -> Reading
+    requires { ⌜ Good (state heap (now slots) (now scalars) (now list) (now directory) (now cells)) ⌝ }
+    ensures { λ r. ⌜ Reads (Calls.growth-bytes w key) (state heap (now (slots .entry)) (now (scalars .entry)) (now (list .entry)) (now (directory .entry)) (now (cells .entry))) (readingIs r) ⌝ }
+{
+    match heap::locate(slots, heap.fresh, w, MAP) {
+        Located::Refused(q) => Reading::Refused(q),
+        Located::At(i) => {
+            let h = slots::read_header(slots, i);
+            let x = slots::read_scalars(scalars, i);
+            let weights = heap.weights;
+            Reading::Is(map_store::growth_bytes(
+                map_of(h, x),
+                region(cells, h),
+                weights.entry,
+                traced(x.a),
+                key,
+            ))
+        }
+    }
+}
+
+// The position of a key.
+pub fn find(
+    heap: Heap,
+    slots: &[u64],
+    scalars: &[u64],
+    list: &[u64],
+    directory: &[u64],
+    cells: &[u64],
+    w: u64,
+    hash: u64,
+    key: u64,
+) -> Perhaps
+    requires { ⌜ Good (state heap (now slots) (now scalars) (now list) (now directory) (now cells)) ⌝ }
+    ensures { λ r. ⌜ Reads (Calls.find w hash key) (state heap (now (slots .entry)) (now (scalars .entry)) (now (list .entry)) (now (directory .entry)) (now (cells .entry))) (perhapsIs r) ⌝ }
+{
+    match heap::locate(slots, heap.fresh, w, MAP) {
+        Located::Refused(q) => Perhaps::Refused(q),
+        Located::At(i) => {
+            let h = slots::read_header(slots, i);
+            let x = slots::read_scalars(scalars, i);
+            match map_store::find(map_of(h, x), region(cells, h), traced(x.a), hash, key) {
+                map_store::Found::Nothing => Perhaps::Absent,
+                map_store::Found::At(pos) => Perhaps::Is(pos as u64),
+            }
+        }
+    }
+}
+
+// The entry at a position, live or dead.
+pub fn read_entry(
+    heap: Heap,
+    slots: &[u64],
+    scalars: &[u64],
+    list: &[u64],
+    directory: &[u64],
+    cells: &[u64],
+    w: u64,
+    pos: u64,
+) -> EntryRead
+    requires { ⌜ Good (state heap (now slots) (now scalars) (now list) (now directory) (now cells)) ⌝ }
+    ensures { λ r. ⌜ Reads (Calls.read-entry w pos) (state heap (now (slots .entry)) (now (scalars .entry)) (now (list .entry)) (now (directory .entry)) (now (cells .entry))) (entrySeen r) ⌝ }
+{
+    match heap::locate(slots, heap.fresh, w, MAP) {
+        Located::Refused(q) => EntryRead::Refused(q),
+        Located::At(i) => {
+            let h = slots::read_header(slots, i);
+            let x = slots::read_scalars(scalars, i);
+            match map_store::entry(map_of(h, x), region(cells, h), pos as usize) {
+                map_store::Got::Outside => EntryRead::Refused(Refusal::Outside),
+                map_store::Got::Place(e) => EntryRead::Is(e),
+            }
+        }
+    }
+}
+
+// A cursor's step on a map, by value: what `next` does to the cursor that it is lent.
+pub fn step_cursor(
+    heap: Heap,
+    slots: &[u64],
+    scalars: &[u64],
+    list: &[u64],
+    directory: &[u64],
+    cells: &[u64],
+    w: u64,
+    c: Cursor,
+) -> Moved
+    requires { ⌜ Good (state heap (now slots) (now scalars) (now list) (now directory) (now cells)) ⌝ }
+    ensures { λ r. ⌜ Reads (Calls.next w (cursorIs c)) (state heap (now (slots .entry)) (now (scalars .entry)) (now (list .entry)) (now (directory .entry)) (now (cells .entry))) (stepSeen (cursorIs c) r) ⌝ }
+{
+    match heap::locate(slots, heap.fresh, w, MAP) {
+        Located::Refused(q) => Moved::Refused(q),
+        Located::At(i) => {
+            let h = slots::read_header(slots, i);
+            let x = slots::read_scalars(scalars, i);
+            Moved::Is(map_store::step(map_of(h, x), region(cells, h), c))
+        }
+    }
+}
+
+// The word of the array or map that an iterator goes over.
+pub fn iter_source(
+    heap: Heap,
+    slots: &[u64],
+    scalars: &[u64],
+    list: &[u64],
+    directory: &[u64],
+    cells: &[u64],
+    w: u64,
+) -> Reading
+    requires { ⌜ Good (state heap (now slots) (now scalars) (now list) (now directory) (now cells)) ⌝ }
+    ensures { λ r. ⌜ Reads (Calls.iter-source w) (state heap (now (slots .entry)) (now (scalars .entry)) (now (list .entry)) (now (directory .entry)) (now (cells .entry))) (readingIs r) ⌝ }
+{
+    word_of(slots, slots, heap.fresh, w, ITERATOR, 2)
+}
+
+// The type of an iterator's keys.
+pub fn iter_key_type(
+    heap: Heap,
+    slots: &[u64],
+    scalars: &[u64],
+    list: &[u64],
+    directory: &[u64],
+    cells: &[u64],
+    w: u64,
+) -> Reading
+    requires { ⌜ Good (state heap (now slots) (now scalars) (now list) (now directory) (now cells)) ⌝ }
+    ensures { λ r. ⌜ Reads (Calls.iter-key-type w) (state heap (now (slots .entry)) (now (scalars .entry)) (now (list .entry)) (now (directory .entry)) (now (cells .entry))) (readingIs r) ⌝ }
+{
+    word_of(slots, slots, heap.fresh, w, ITERATOR, 3)
+}
+
+// Whether an iterator has ended.
+pub fn iter_ended(
+    heap: Heap,
+    slots: &[u64],
+    scalars: &[u64],
+    list: &[u64],
+    directory: &[u64],
+    cells: &[u64],
+    w: u64,
+) -> Test
+    requires { ⌜ Good (state heap (now slots) (now scalars) (now list) (now directory) (now cells)) ⌝ }
+    ensures { λ r. ⌜ Reads (Calls.iter-ended w) (state heap (now (slots .entry)) (now (scalars .entry)) (now (list .entry)) (now (directory .entry)) (now (cells .entry))) (testIs r) ⌝ }
+{
+    match word_of(slots, scalars, heap.fresh, w, ITERATOR, 0) {
+        Reading::Refused(q) => Test::Refused(q),
+        Reading::Is(n) => Test::Is(n != 0),
+    }
+}
+
+// The key of the item visited last.
+pub fn iter_key(
+    heap: Heap,
+    slots: &[u64],
+    scalars: &[u64],
+    list: &[u64],
+    directory: &[u64],
+    cells: &[u64],
+    w: u64,
+) -> Perhaps
+    requires { ⌜ Good (state heap (now slots) (now scalars) (now list) (now directory) (now cells)) ⌝ }
+    ensures { λ r. ⌜ Reads (Calls.iter-key w) (state heap (now (slots .entry)) (now (scalars .entry)) (now (list .entry)) (now (directory .entry)) (now (cells .entry))) (perhapsIs r) ⌝ }
+{
+    match heap::locate(slots, heap.fresh, w, ITERATOR) {
+        Located::Refused(q) => Perhaps::Refused(q),
+        Located::At(i) => {
+            let x = slots::read_scalars(scalars, i);
+            if x.b == 0 {
+                return Perhaps::Absent;
+            }
+            Perhaps::Is(x.c)
+        }
+    }
+}
+
+// An iterator's cursor.
+pub fn iter_cursor(
+    heap: Heap,
+    slots: &[u64],
+    scalars: &[u64],
+    list: &[u64],
+    directory: &[u64],
+    cells: &[u64],
+    w: u64,
+) -> CursorRead
+    requires { ⌜ Good (state heap (now slots) (now scalars) (now list) (now directory) (now cells)) ⌝ }
+    ensures { λ r. ⌜ Reads (Calls.iter-cursor w) (state heap (now (slots .entry)) (now (scalars .entry)) (now (list .entry)) (now (directory .entry)) (now (cells .entry))) (cursorSeen r) ⌝ }
+{
+    match heap::locate(slots, heap.fresh, w, ITERATOR) {
+        Located::Refused(q) => CursorRead::Refused(q),
+        Located::At(i) => {
+            let h = slots::read_header(slots, i);
+            let x = slots::read_scalars(scalars, i);
+            if heap::row_at(slots, heap.fresh, h.value) == ARRAY {
+                return CursorRead::Index(x.f);
+            }
+            CursorRead::Map(cursor_of(x))
+        }
+    }
+}
+
+// The last item of an array.
+pub fn pop(
+    heap: Heap,
+    slots: &mut [u64],
+    scalars: &[u64],
+    list: &[u64],
+    directory: &[u64],
+    cells: &[u64],
+    w: u64,
+) -> Reading
+    requires { ⌜ Good (state heap (now slots) (now scalars) (now list) (now directory) (now cells)) ⌝ }
+    ensures { λ r. ⌜ Performs (Calls.pop w) (state heap (now (slots .entry)) (now (scalars .entry)) (now (list .entry)) (now (directory .entry)) (now (cells .entry))) (readingIs r) (state heap (now (slots .exit)) (now (scalars .entry)) (now (list .entry)) (now (directory .entry)) (now (cells .entry))) ⌝ }
+{
+    match heap::locate(slots, heap.fresh, w, ARRAY) {
+        Located::Refused(q) => Reading::Refused(q),
+        Located::At(i) => {
+            let h = slots::read_header(slots, i);
+            if h.len == 0 {
+                return Reading::Refused(Refusal::Outside);
+            }
+            let account = heap.account;
+            if !zero_fits(account) {
+                return Reading::Refused(Refusal::OverBudget);
+            }
+            let at = (h.start + (h.len - 1)) as usize;
+            let v = item(
+                heap,
+                slots,
+                scalars,
+                list,
+                directory,
+                cells,
+                h.mode,
+                cells[at],
+            );
+            slots::set_len(slots, i, h.len - 1);
+            Reading::Is(v)
+        }
+    }
+}
+
+// The value of the entry at a position; outside nothing changes.
+pub fn set_value(
+    heap: Heap,
+    slots: &[u64],
+    scalars: &[u64],
+    list: &[u64],
+    directory: &[u64],
+    cells: &mut [u64],
+    w: u64,
+    pos: u64,
+    v: u64,
+) -> Done
+    requires { ⌜ Good (state heap (now slots) (now scalars) (now list) (now directory) (now cells)) ⌝ }
+    ensures { λ r. ⌜ Performs (Calls.set-value w pos v) (state heap (now (slots .entry)) (now (scalars .entry)) (now (list .entry)) (now (directory .entry)) (now (cells .entry))) (doneIs r) (state heap (now (slots .entry)) (now (scalars .entry)) (now (list .entry)) (now (directory .entry)) (now (cells .exit))) ⌝ }
+{
+    match heap::locate(slots, heap.fresh, w, MAP) {
+        Located::Refused(q) => Done::Refused(q),
+        Located::At(i) => {
+            let h = slots::read_header(slots, i);
+            let x = slots::read_scalars(scalars, i);
+            set_value_in(cells, h, map_of(h, x), pos as usize, v);
+            Done::Accepted
+        }
+    }
+}
+
+// The integer key k was added.
+pub fn note(
+    heap: Heap,
+    slots: &mut [u64],
+    scalars: &mut [u64],
+    list: &[u64],
+    directory: &[u64],
+    cells: &[u64],
+    w: u64,
+    k: i64,
+) -> Done
+    requires { ⌜ Good (state heap (now slots) (now scalars) (now list) (now directory) (now cells)) ⌝ }
+    ensures { λ r. ⌜ Performs (Calls.note w k) (state heap (now (slots .entry)) (now (scalars .entry)) (now (list .entry)) (now (directory .entry)) (now (cells .entry))) (doneIs r) (state heap (now (slots .exit)) (now (scalars .exit)) (now (list .entry)) (now (directory .entry)) (now (cells .entry))) ⌝ }
+{
+    match heap::locate(slots, heap.fresh, w, MAP) {
+        Located::Refused(q) => Done::Refused(q),
+        Located::At(i) => {
+            let h = slots::read_header(slots, i);
+            let x = slots::read_scalars(scalars, i);
+            write_map(slots, scalars, i, map_store::note_int_key(map_of(h, x), k));
+            Done::Accepted
+        }
+    }
+}
+
+// The next item of an iterator, or its end.
+pub fn iter_next(
+    heap: Heap,
+    slots: &[u64],
+    scalars: &mut [u64],
+    list: &[u64],
+    directory: &[u64],
+    cells: &[u64],
+    w: u64,
+) -> Perhaps
+    requires { ⌜ Good (state heap (now slots) (now scalars) (now list) (now directory) (now cells)) ⌝ }
+    ensures { λ r. ⌜ Performs (Calls.iter-next w) (state heap (now (slots .entry)) (now (scalars .entry)) (now (list .entry)) (now (directory .entry)) (now (cells .entry))) (perhapsIs r) (state heap (now (slots .entry)) (now (scalars .exit)) (now (list .entry)) (now (directory .entry)) (now (cells .entry))) ⌝ }
+{
+    match heap::locate(slots, heap.fresh, w, ITERATOR) {
+        Located::Refused(q) => Perhaps::Refused(q),
+        Located::At(i) => {
+            let h = slots::read_header(slots, i);
+            let x = slots::read_scalars(scalars, i);
+            let v = advance(heap, slots, scalars, list, directory, cells, h.value, x);
+            let next = v.next;
+            slots::write_scalars(scalars, i, next);
+            let item = v.item;
+            match item {
+                Visited::End => Perhaps::Absent,
+                Visited::Item(n) => Perhaps::Is(n),
+            }
+        }
+    }
+}

@@ -1,0 +1,16 @@
+pub mod KindLaws
+pub mod GoodLaws
+pub mod SlotLaws
+pub mod ReachLaws
+pub mod DoesLaws
+pub mod ReadLaws
+pub mod TouchLaws
+pub mod StoreLaws
+pub mod StepLaws
+pub mod PlaceLaws
+pub mod IdleLaws
+pub mod LocateLaws
+pub mod CallLaws
+pub mod SeatLaws
+pub mod OpenLaws
+pub mod SweepLaws

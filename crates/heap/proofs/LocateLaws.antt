@@ -1,0 +1,80 @@
+-- The answers of locate and row_at. Assumes nothing.
+use Prim.Native.Nat.{ℕ, _+_, _*_, _/_, _%_, _≤_, _<_}
+use mathlib.Core.Path.{_≡_, refl, ap, sym, _∙_}
+use mathlib.Core.Bool.{Bool, true, false}
+use mathlib.Core.List.{List}
+use native.Mathlib.Omega.{arith}
+use borrow.Author.Tests.{ltb-true}
+use lib.Dec.{eqb, leb, ltb}
+use lib.ListN.{getD, length}
+use Rattle.slots.specs.Header.{headerAt}
+use Rattle.slots.specs.Lookup.{Finds, hitFirst, missed, pick}
+use Rattle.slots.specs.declared.Found.{Found}
+use Rattle.slots.specs.declared.Found.the-variants as F
+use Rattle.slots.specs.declared.Header.{Header}
+use Rattle.history.proofs.Facts.{eqb-no, eqb-yes}
+use Rattle.heap.specs.declared.Located.the-variants.{At, Refused}
+use Rattle.heap.specs.declared.Refusal.the-variants.{OtherKind, ReachesNothing}
+use Rattle.heap.specs.Locating.{Locates, Ranks, locatedBy, locatedIn, rowBy}
+
+-- ---- an object that is found lies within the slots
+
+wrong-at : {i : ℕ} → F.Wrong ≡ F.At i → ⊥
+wrong-at e = let z : _≡_ {A = ℕ} 0 1 = cc in absurd (omega arith)
+
+nothing-at : {i : ℕ} → F.Nothing ≡ F.At i → ⊥
+nothing-at e = let z : _≡_ {A = ℕ} 0 1 = cc in absurd (omega arith)
+
+missed-at : (a b c : Bool) {i : ℕ} → pick a F.Wrong (pick b F.Wrong (pick c F.Wrong F.Nothing)) ≡ F.At i → ⊥
+missed-at true b c e = wrong-at e
+missed-at false true c e = wrong-at e
+missed-at false false true e = wrong-at e
+missed-at false false false e = nothing-at e
+
+hit-at : (a b c : Bool) (m : Found) (j i : ℕ) → (m ≡ F.At i → ⊥) → pick a (pick b (pick c m (F.At j)) m) m ≡ F.At i → (a ≡ true) × (j ≡ i)
+hit-at true true true m j i z e = absurd (z e)
+hit-at true true false m j i z e = (refl, (cc))
+hit-at true false c m j i z e = absurd (z e)
+hit-at false b c m j i z e = absurd (z e)
+
+pub found-within : {s : List ℕ} {n w i : ℕ} {f : Found} → Finds s n w f → f ≡ F.At i → i < n
+unfolding hitFirst missed
+found-within {s} {n} {w} {i} d e =
+    let h = hit-at (ltb (w % 4294967296) n) (eqb (getD s (w % 4294967296 * 8) 0) (w / 4294967296)) (eqb (getD s (w % 4294967296 * 8 + 1) 0) 0) (missed (w / 4294967296)) (w % 4294967296) i
+    (missed-at (leb 131072 (w / 4294967296)) (eqb (w / 4294967296) 1) (eqb (w / 4294967296) 2)) (sym (d .is) ∙ e) in
+    rw (← h .1) (ltb-true (w % 4294967296) n (h .0))
+
+pub found-fits : {s : List ℕ} {n w i : ℕ} {f : Found} → Finds s n w f → f ≡ F.At i → n ≤ 65536 → n * 8 ≤ length s → (i < 65536) × (i * 8 + 8 ≤ length s)
+found-fits d e a b = let l = found-within d e in (omega arith, omega arith)
+
+-- ---- the answers
+
+module _ {s : List ℕ} {n w kind : ℕ} {f : Found} (d : Finds s n w f) where
+  pub locates-nothing : f ≡ F.Nothing → Locates s n w kind (Refused ReachesNothing)
+  unfolding locatedIn locatedBy
+  locates-nothing e = record { is = rw (sym (d .is) ∙ e) }
+
+  pub locates-wrong : f ≡ F.Wrong → Locates s n w kind (Refused OtherKind)
+  unfolding locatedIn locatedBy
+  locates-wrong e = record { is = rw (sym (d .is) ∙ e) }
+
+  pub locates-at : {i : ℕ} {h : Header} → f ≡ F.At i → h ≡ headerAt s i → h .kind ≡ kind → Locates s n w kind (At i)
+  unfolding locatedIn locatedBy
+  locates-at {i} {h} e r k = record { is = rw (sym (d .is) ∙ e, eqb-yes (headerAt s i .kind) kind (ap (λ (x : Header). x .kind) (sym r) ∙ k)) }
+
+  pub locates-other : {i : ℕ} {h : Header} → f ≡ F.At i → h ≡ headerAt s i → (h .kind ≡ kind → ⊥) → Locates s n w kind (Refused OtherKind)
+  unfolding locatedIn locatedBy
+  locates-other {i} {h} e r k = record { is = rw (sym (d .is) ∙ e, eqb-no (headerAt s i .kind) kind (λ z. k (ap (λ (x : Header). x .kind) r ∙ z))) }
+
+module _ {s : List ℕ} {n w : ℕ} {f : Found} (d : Finds s n w f) where
+  pub ranks-nothing : f ≡ F.Nothing → Ranks s n w 0
+  unfolding rowBy
+  ranks-nothing e = record { is = rw (sym (d .is) ∙ e) }
+
+  pub ranks-wrong : f ≡ F.Wrong → Ranks s n w 0
+  unfolding rowBy
+  ranks-wrong e = record { is = rw (sym (d .is) ∙ e) }
+
+  pub ranks-at : {i : ℕ} {h : Header} → f ≡ F.At i → h ≡ headerAt s i → Ranks s n w (h .kind)
+  unfolding rowBy
+  ranks-at e r = record { is = rw (sym (d .is) ∙ e) (ap (λ (x : Header). x .kind) r) }

@@ -1,0 +1,79 @@
+-- What the answers of the calls mean: document 01's number for each refusal, and the answer of the model.
+use Prim.Native.Nat.{ℕ}
+use Rattle.model.specs.Replies.{Reply, nothing, number, signed, truth, reference-made, reply, no-memory}
+use Rattle.history.proofs.Lift.{Seen}
+use Rattle.heap.specs.declared.Refusal.{Refusal}
+use Rattle.heap.specs.declared.Refusal.the-variants as No
+use Rattle.heap.specs.declared.Reading.{Reading}
+use Rattle.heap.specs.declared.Reading.the-variants as Read
+use Rattle.heap.specs.declared.Signed.{Signed}
+use Rattle.heap.specs.declared.Signed.the-variants as Sign
+use Rattle.heap.specs.declared.Test.{Test}
+use Rattle.heap.specs.declared.Test.the-variants as Tells
+use Rattle.heap.specs.declared.Done.{Done}
+use Rattle.heap.specs.declared.Kind.{Kind}
+use Rattle.heap.specs.declared.Kind.the-variants as K
+use Rattle.heap.specs.declared.Done.the-variants as Do
+
+-- document 01, "Who can be turned back"
+unfoldable pub numberOf : Refusal → ℕ
+numberOf No.ReachesNothing = 1
+numberOf No.OtherKind = 2
+numberOf No.Outside = 3
+numberOf No.BadType = 4
+numberOf No.OverBudget = 5
+numberOf No.NoSlot = 6
+numberOf No.NoCells = 7
+numberOf No.TooShort = 8
+numberOf No.Spent = 9
+numberOf No.BadOpening = 10
+
+-- "returned: the number, no word"
+abbrev pub refused : Refusal → Seen
+refused q = record { refusal = numberOf q; answer = reply nothing; lent = no-memory }
+
+abbrev pub answered : Reply → Seen
+answered a = record { refusal = 0; answer = reply a; lent = no-memory }
+
+-- a word or a number read
+unfoldable pub readingIs : Reading → Seen
+readingIs (Read.Is w) = answered (number w)
+readingIs (Read.Refused q) = refused q
+
+-- an integer object's number
+unfoldable pub signedIs : Signed → Seen
+signedIs (Sign.Is z) = answered (signed z)
+signedIs (Sign.Refused q) = refused q
+
+-- yes or no
+unfoldable pub testIs : Test → Seen
+testIs (Tells.Is b) = answered (truth b)
+testIs (Tells.Refused q) = refused q
+
+-- a call that answers no word
+unfoldable pub doneIs : Done → Seen
+doneIs Do.Accepted = answered nothing
+doneIs (Do.Refused q) = refused q
+
+-- an allocation: the reference made
+unfoldable pub madeIs : Reading → Seen
+madeIs (Read.Is w) = record { refusal = 0; answer = reference-made w; lent = no-memory }
+madeIs (Read.Refused q) = refused q
+
+-- `kind` of heap.rs: nil is 0, an object's kind its row, 12 truth, 13 float, 14 character
+unfoldable pub kindNumber : Kind → ℕ
+kindNumber K.Nil = 0
+kindNumber K.String = 1
+kindNumber K.Integer = 2
+kindNumber K.Cell = 3
+kindNumber K.Error = 4
+kindNumber K.Box = 5
+kindNumber K.Array = 6
+kindNumber K.Map = 7
+kindNumber K.Struct = 8
+kindNumber K.Function = 9
+kindNumber K.Iterator = 10
+kindNumber K.Coroutine = 11
+kindNumber K.Truth = 12
+kindNumber K.Float = 13
+kindNumber K.Character = 14

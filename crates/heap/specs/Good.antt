@@ -1,0 +1,72 @@
+-- What holds of a heap and its lent buffers between calls. Opening establishes it, every call keeps it.
+use Prim.Native.Nat.{ℕ, _+_, _*_, _/_, _≤_, _<_}
+use mathlib.Core.Path.{_≡_}
+use mathlib.Core.Bool.{cond}
+use mathlib.Core.List.{List}
+use lib.Dec.{eqb}
+use lib.ListN.{getD, length}
+use Rattle.slots.specs.Header.{headerAt}
+use Rattle.slots.specs.FreeList.{Listed}
+use Rattle.slots.specs.declared.Scalars.{Scalars}
+use Rattle.cells.specs.Moves.{stringCells}
+use Rattle.cells.specs.Regions.{Raw, Laid, sizesOf, sumTo}
+use Rattle.map_store.specs.Map as Map
+use Rattle.model.specs.declared.Weights.{Weights}
+use Rattle.heap.specs.Kinds.{mapOf}
+use Rattle.heap.specs.State.{State, rawOf, moreOf}
+
+-- one slot: its region is as long as its kind's contents say (document 01's column "cells")
+pub record SlotGood (r : Raw) (x : Scalars) : Type 0 where
+  pub half-low : 65536 ≤ r .half
+  pub half-high : r .half < 131072
+  pub kind : r .kind ≤ 11
+  pub empty : r .kind ≡ 0 → (r .half < 98304) × (r .size ≡ 0)
+  pub string : r .kind ≡ 1 → r .size ≡ stringCells (r .len)
+  pub integer : r .kind ≡ 2 → r .size ≡ 0
+  pub cell : r .kind ≡ 3 → r .size ≡ 0
+  pub error : r .kind ≡ 4 → r .size ≡ 0
+  pub box : r .kind ≡ 5 → r .size ≡ 0
+  pub array : r .kind ≡ 6 → r .len ≤ r .size
+  pub map : r .kind ≡ 7 → Map.Good (mapOf r x) (r .cells) × (r .size ≡ r .value * 5 + r .mode / 2) × (x .g < 4294967296)
+  pub struct : r .kind ≡ 8 → r .len ≡ r .size
+  pub function : r .kind ≡ 9 → r .len ≡ r .size
+  pub iterator : r .kind ≡ 10 → (r .size ≡ 0) × (x .g < 4294967296)
+  pub coroutine : r .kind ≡ 11 → r .size ≡ r .len + 4 * x .f
+
+-- "weights are given at opening, 1 to 4,096"
+pub record WeightsGood (w : Weights) : Type 0 where
+  pub slot : (1 ≤ w .slot) × (w .slot ≤ 4096)
+  pub entry : (1 ≤ w .entry) × (w .entry ≤ 4096)
+  pub iterator : (1 ≤ w .iterator) × (w .iterator ≤ 4096)
+  pub coroutine : (1 ≤ w .coroutine) × (w .coroutine ≤ 4096)
+  pub frame : (1 ≤ w .frame) × (w .frame ≤ 4096)
+
+-- 1 for a slot with an object
+abbrev pub filled : State → ℕ → ℕ
+filled t i = cond (eqb (headerAt (t .slots) i .kind) 0) 0 1
+
+pub record Good (t : State) : Type 0 where
+  pub some-slot : 1 ≤ t .heap .size
+  pub slots-max : t .heap .size ≤ 65536
+  pub slots-fit : t .heap .size * 8 ≤ length (t .slots)
+  pub scalars-fit : t .heap .size * 8 ≤ length (t .scalars)
+  pub list-fit : t .heap .size ≤ length (t .list)
+  pub directory-fit : t .heap .size * 2 ≤ length (t .directory)
+  pub weights : WeightsGood (t .heap .weights)
+  pub fresh : t .heap .fresh ≤ t .heap .size
+  pub each : (i : ℕ) → i < t .heap .fresh → SlotGood (rawOf t i) (moreOf t i)
+  -- regions, and the cells in use
+  pub laid : Laid (t .heap .fresh) (t .heap .top) (t .heap .entries) (t .slots) (t .directory) (t .cells)
+  pub taken : t .heap .taken ≡ sizesOf (t .slots) (t .heap .fresh)
+  pub cells-fit : t .heap .taken ≤ length (t .cells)
+  -- the free list, and the objects present
+  pub listed : Listed (t .slots) (t .list) (t .heap .fresh) (t .heap .free)
+  pub present : t .heap .present ≡ sumTo (filled t) (t .heap .fresh)
+  pub room : t .heap .free + t .heap .present ≤ t .heap .fresh
+
+-- At rest, between collections: marks and order, a place for each slot and as many again, hold zeros there.
+pub record Rested (size : ℕ) (marks order : List ℕ) : Type 0 where
+  pub marks-fit : size ≤ length marks
+  pub order-fit : size * 2 ≤ length order
+  pub marks-zero : (i : ℕ) → i < size → getD marks i 0 ≡ 0
+  pub order-zero : (i : ℕ) → i < size * 2 → getD order i 0 ≡ 0

@@ -1,0 +1,38 @@
+-- The object that a call is made on (document 01, refusals 1 and 2).
+use Prim.Native.Nat.{ℕ}
+use mathlib.Core.Path.{_≡_}
+use mathlib.Core.Bool.{Bool, true, false}
+use mathlib.Core.List.{List}
+use lib.Dec.{eqb}
+use Rattle.slots.specs.Header.{headerAt}
+use Rattle.slots.specs.Lookup.{hitFirst}
+use Rattle.slots.specs.declared.Found.{Found}
+use Rattle.slots.specs.declared.Found.the-variants as F
+use Rattle.heap.specs.declared.Located.{Located}
+use Rattle.heap.specs.declared.Located.the-variants.{At, Refused}
+use Rattle.heap.specs.declared.Refusal.the-variants.{ReachesNothing, OtherKind}
+
+abbrev pub pick : Bool → Located → Located → Located
+pick true a b = a
+pick false a b = b
+
+-- by what the word reaches: an object of the kind, or the refusal
+unfoldable pub locatedBy : List ℕ → ℕ → Found → Located
+locatedBy s kind (F.At i) = pick (eqb (headerAt s i .kind) kind) (At i) (Refused OtherKind)
+locatedBy s kind F.Nothing = Refused ReachesNothing
+locatedBy s kind F.Wrong = Refused OtherKind
+
+unfoldable pub locatedIn : List ℕ → ℕ → ℕ → ℕ → Located
+locatedIn s n w kind = locatedBy s kind (hitFirst s n w)
+
+pub record Locates (s : List ℕ) (n w kind : ℕ) (r : Located) : Type 0 where
+  pub is : r ≡ locatedIn s n w kind
+
+-- the row of the object that a word reaches, 0 for none
+unfoldable pub rowBy : List ℕ → Found → ℕ
+rowBy s (F.At i) = headerAt s i .kind
+rowBy s F.Nothing = 0
+rowBy s F.Wrong = 0
+
+pub record Ranks (s : List ℕ) (n w r : ℕ) : Type 0 where
+  pub is : r ≡ rowBy s (hitFirst s n w)

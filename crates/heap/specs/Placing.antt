@@ -1,0 +1,122 @@
+-- A new object (document 01, "Slot and object"): whether it is refused, and where it goes.
+use Prim.Native.Nat.{ℕ, _+_, _-_, _*_, _≤_, _<_}
+use mathlib.Core.Path.{_≡_}
+use mathlib.Core.Bool.{cond, not, true, _||_}
+use mathlib.Core.List.{List}
+use lib.Dec.{eqb, leb, ltb}
+use lib.ListN.{length, set, take, drop}
+use Rattle.account.specs.Account.{charged, fits}
+use Rattle.slots.specs.Header.{setHeader, withHalf, withRegion}
+use Rattle.slots.specs.FreeList.{Listed, takenHalf, takenSlot}
+use Rattle.slots.specs.declared.Header.{Header}
+use Rattle.cells.specs.Regions.{Raw}
+use Rattle.layout.specs.Layout.{Layout}
+use Rattle.heap.specs.declared.Heap.{Heap}
+use Rattle.heap.specs.declared.Made.{Made}
+use Rattle.heap.specs.declared.Reading.the-variants.{Is}
+use Rattle.heap.specs.declared.Done.{Done}
+use Rattle.heap.specs.declared.Done.the-variants.{Accepted, Refused}
+use Rattle.heap.specs.declared.Refusal.the-variants.{NoCells, NoSlot, OverBudget}
+use Rattle.heap.specs.State.{State, modelOf, withRegions}
+use Rattle.heap.specs.Good.{Good}
+
+-- 5, 6, 7, in this order: a charge of `bytes`, and `size` more of the `total` cells
+unfoldable pub judgedNew : Heap → ℕ → ℕ → ℕ → Done
+judgedNew h total bytes size =
+    cond (fits (h .account) bytes)
+    (cond (not (eqb (h .free) 0) || ltb (h .fresh) (h .size)) (cond (leb (h .taken + size) total) Accepted (Refused NoCells)) (Refused NoSlot))
+    (Refused OverBudget)
+
+-- "the slot freed last is used first; otherwise the next never-used slot"
+abbrev pub nextSlot : State → ℕ
+nextSlot t = takenSlot (t .list) (t .heap .fresh) (t .heap .free)
+
+-- "the flag for a box only"
+abbrev pub flagOf : ℕ → ℕ
+flagOf kind = cond (eqb kind 5) 32768 0
+
+-- the upper half of the new object's reference, and the reference
+abbrev pub newHalf : State → ℕ → ℕ
+newHalf t kind = takenHalf (t .slots) (t .list) (t .heap .free) + flagOf kind
+
+abbrev pub newWord : State → ℕ → ℕ
+newWord t kind = newHalf t kind * 4294967296 + nextSlot t
+
+-- kind, value, mode, len and size are the caller's
+abbrev pub newHeader : State → Header → ℕ → ℕ → Header
+newHeader t h start entry = record { half = newHalf t (h .kind); kind = h .kind; value = h .value; mode = h .mode; len = h .len; size = h .size; start = start; entry = entry }
+
+-- the slot that a header makes with these cells
+abbrev pub newRaw : ℕ → Header → List ℕ → Raw
+newRaw half h region = record { half = half; kind = h .kind; value = h .value; mode = h .mode; len = h .len; size = h .size; cells = region }
+
+-- the record with one object more
+abbrev pub grownHeap : Heap → ℕ → ℕ → ℕ → ℕ → Heap
+grownHeap h bytes size top entries = record {
+  account = charged (h .account) bytes;
+  weights = h .weights;
+  size = h .size;
+  fresh = cond (eqb (h .free) 0) (h .fresh + 1) (h .fresh);
+  free = h .free - 1;
+  top = top;
+  entries = entries;
+  taken = h .taken + size;
+  present = h .present + 1;
+  collections = h .collections;
+  freed = h .freed;
+}
+
+-- an object without cells: size, start and entry are 0
+abbrev pub placedPlain : State → Header → ℕ → State
+placedPlain t h bytes = record {
+  heap = grownHeap (t .heap) bytes 0 (t .heap .top) (t .heap .entries);
+  slots = setHeader (t .slots) (nextSlot t) (newHeader t (withRegion h 0 0 0) 0 0);
+  scalars = t .scalars;
+  list = t .list;
+  directory = t .directory;
+  cells = t .cells;
+}
+
+-- an object whose region is the next at the top
+abbrev pub placedRegion : State → Header → ℕ → State
+placedRegion t h bytes = record {
+  heap = grownHeap (t .heap) bytes (h .size) (t .heap .top + h .size) (t .heap .entries + 1);
+  slots = setHeader (t .slots) (nextSlot t) (newHeader t h (t .heap .top) (t .heap .entries));
+  scalars = t .scalars;
+  list = t .list;
+  directory = set (t .directory) (t .heap .entries) (nextSlot t);
+  cells = t .cells;
+}
+
+-- the cells that its region will have
+abbrev pub nextRegion : State → ℕ → List ℕ
+nextRegion t size = take size (drop (t .heap .top) (t .cells))
+
+-- from b to a no object has changed, and there is room for a region of `size` cells at the top
+pub record Roomy (b a : State) (size : ℕ) : Type 0 where
+  pub heap : a .heap ≡ withRegions (b .heap) (b .heap .account) (a .heap .top) (a .heap .entries) (b .heap .taken)
+  pub scalars : a .scalars ≡ b .scalars
+  pub list : a .list ≡ b .list
+  pub cells-length : length (a .cells) ≡ length (b .cells)
+  pub good : Good a
+  pub model : (l : Layout) → modelOf l a ≡ modelOf l b
+  pub region : a .heap .top + size ≤ length (a .cells)
+  pub entry : a .heap .entries < a .heap .size * 2
+
+-- what placing a header in the next slot needs
+pub record Seatable (h : Heap) (s list : List ℕ) (bytes size : ℕ) : Type 0 where
+  pub listed : Listed s list (h .fresh) (h .free)
+  pub slots-max : h .size ≤ 65536
+  pub slots-fit : h .size * 8 ≤ length s
+  pub list-fit : h .free ≤ length list
+  pub fresh : h .fresh ≤ h .size
+  pub left : h .free ≡ 0 → h .fresh < h .size
+  pub present : h .present ≤ 65536
+  pub cells-max : h .taken + size ≤ 1048576
+  pub in-budget : fits (h .account) bytes ≡ true
+
+-- the header is placed, and the record has one object more; its region is the caller's care
+pub record Seats (h : Heap) (s list : List ℕ) (hd : Header) (bytes : ℕ) (r : Made) (s′ : List ℕ) : Type 0 where
+  pub heap : r .heap ≡ grownHeap h bytes (hd .size) (h .top) (h .entries)
+  pub slots : s′ ≡ setHeader s (takenSlot list (h .fresh) (h .free)) (withHalf hd (takenHalf s list (h .free) + flagOf (hd .kind)))
+  pub answer : r .answer ≡ Is ((takenHalf s list (h .free) + flagOf (hd .kind)) * 4294967296 + takenSlot list (h .fresh) (h .free))

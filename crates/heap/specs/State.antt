@@ -1,0 +1,85 @@
+-- The heap's record and its lent buffers, and the model that they hold.
+use Prim.Native.Nat.{ℕ, _%_}
+use mathlib.Core.Bool.{false, cond}
+use mathlib.Core.List.{List}
+use mathlib.Core.Option.{none}
+use lib.Dec.{leb, ltb}
+use lib.ListN.{length}
+use Rattle.slots.specs.Header.{scalarsAt}
+use Rattle.slots.specs.FreeList.{freeList}
+use Rattle.slots.specs.declared.Scalars.{Scalars}
+use Rattle.cells.specs.Regions.{Raw, rawAt}
+use Rattle.account.specs.declared.Account.{Account}
+use Rattle.layout.specs.Layout.{Layout}
+use Rattle.model.specs.Slots.{Slot}
+use Rattle.model.specs.Model.{Model}
+use Rattle.heap.specs.declared.Heap.{Heap}
+use Rattle.heap.specs.Kinds.{objectOf}
+
+-- slots: headers; scalars: the words of maps, iterators and coroutines; list: the free list; directory: the regions' owners
+pub record State : Type 0 where
+  pub heap : Heap
+  pub slots : List ℕ
+  pub scalars : List ℕ
+  pub list : List ℕ
+  pub directory : List ℕ
+  pub cells : List ℕ
+
+abbrev pub state : Heap → List ℕ → List ℕ → List ℕ → List ℕ → List ℕ → State
+state h s x f d c = record { heap = h; slots = s; scalars = x; list = f; directory = d; cells = c }
+
+abbrev pub rawOf : State → ℕ → Raw
+rawOf t i = rawAt (t .slots) (t .cells) i
+
+abbrev pub moreOf : State → ℕ → Scalars
+moreOf t i = scalarsAt (t .scalars) i
+
+-- a reference's upper half is 65536 + tag; the tag is the box flag 0x8000 plus a 15-bit generation
+unfoldable pub slotFrom : Raw → Scalars → Slot
+slotFrom r x = record { gen = r .half % 32768; boxed = leb 98304 (r .half); object = objectOf r x }
+
+abbrev pub unused : Slot
+unused = record { gen = 0; boxed = false; object = none }
+
+unfoldable pub slotOf : State → ℕ → Slot
+slotOf t i = cond (ltb i (t .heap .fresh)) (slotFrom (rawOf t i) (moreOf t i)) unused
+
+unfoldable pub modelOf : Layout → State → Model
+modelOf l t = record {
+  table = record { size = t .heap .size; slots = slotOf t; fresh = t .heap .fresh; free = freeList (t .list) (t .heap .free); freed = t .heap .freed };
+  cells = length (t .cells);
+  layout = l;
+  weights = t .heap .weights;
+  account = t .heap .account;
+  collections = t .heap .collections;
+}
+
+-- ---- states that differ in one thing
+
+abbrev pub withHeap : State → Heap → State
+withHeap t h = record { heap = h; slots = t .slots; scalars = t .scalars; list = t .list; directory = t .directory; cells = t .cells }
+
+abbrev pub withSlots : State → List ℕ → State
+withSlots t s = record { heap = t .heap; slots = s; scalars = t .scalars; list = t .list; directory = t .directory; cells = t .cells }
+
+abbrev pub withScalars : State → List ℕ → State
+withScalars t x = record { heap = t .heap; slots = t .slots; scalars = x; list = t .list; directory = t .directory; cells = t .cells }
+
+abbrev pub withCells : State → List ℕ → State
+withCells t c = record { heap = t .heap; slots = t .slots; scalars = t .scalars; list = t .list; directory = t .directory; cells = c }
+
+-- the record with another account, and regions at other places
+abbrev pub withRegions : Heap → Account → ℕ → ℕ → ℕ → Heap
+withRegions h account top entries taken = record {
+  account = account;
+  weights = h .weights;
+  size = h .size;
+  fresh = h .fresh;
+  free = h .free;
+  top = top;
+  entries = entries;
+  taken = taken;
+  present = h .present;
+  collections = h .collections;
+  freed = h .freed;
+}

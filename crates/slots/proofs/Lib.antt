@@ -1,0 +1,5 @@
+pub mod Cases
+pub mod HeaderLaws
+pub mod LookupLaws
+pub mod FreeListLaws
+pub mod SignedLaws

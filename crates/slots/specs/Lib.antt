@@ -1,0 +1,4 @@
+pub mod Header
+pub mod Lookup
+pub mod FreeList
+pub mod Signed
