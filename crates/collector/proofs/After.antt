@@ -21,9 +21,9 @@ use Rattle.account.specs.Account.{afterSweep, saturated}
 use Rattle.layout.specs.Layout.{Layout}
 use Rattle.model.specs.Reference.{word}
 use Rattle.model.specs.Content.{Content, finalize}
-use Rattle.model.specs.View.{View, mem, named}
+use Rattle.model.specs.View.{View, mem, referenceOf}
 use Rattle.model.specs.Slots as Slots
-use Rattle.model.specs.Slots.{Slot, SlotTable, Object, one, piled, slotAfter, slotTo, freedSlot, drops, dropsObject, gone, rewritten}
+use Rattle.model.specs.Slots.{Slot, SlotTable, Object, one, freeListAfter, slotAfter, slotTo, freedSlot, drops, dropsObject, rewritten}
 use Rattle.model.specs.Model.{Model, viewOf, weightIn, weightsKept}
 use Rattle.model.specs.Kept.{finalizable, kept, settled, swept}
 use Rattle.heap.specs.Kinds.{contentOf, roomOf, objectOf}
@@ -38,7 +38,7 @@ use Rattle.finalizing.specs.Dropped.{droppedWords, marksReached, marksKept, fin
 use Rattle.finalizing.proofs.Found.{dropped-finalizable, kept-marked, dropped-kind}
 use Rattle.finalizing.proofs.Finalized.{flagged, names-mem, finalized-at, finalized-length, dropped-owned, dropped-mem}
 use Rattle.collector.specs.declared.Tally.{Tally}
-use Rattle.collector.specs.Sweep.{weightAt, freedHeader, nextGeneration, isFreed, isReturned, sweptHeader, Swept, stateAfter}
+use Rattle.collector.specs.Sweep.{weightAt, freedHeader, nextGeneration, freedAt, returnedAt, sweptHeader, Swept, stateAfter}
 use Rattle.collector.proofs.Contents.{weight-of-object, flag-good, flag-finalizes}
 use Rattle.collector.proofs.Sweeping.{freed-vacant, freed-marked, freed-so, swept-kept, swept-freed, freed-low, freed-high}
 
@@ -59,8 +59,8 @@ unfolding sumTo
 total-less zero f h e = omega arith
 total-less (suc n) f h e = let a = total-less n f h (λ j l. e j (omega arith)) in let b = e n (omega arith) in omega arith
 
-piled-same : (P Q : ℕ → Bool) (n : ℕ) (free : List ℕ) → ((j : ℕ) → j < n → P j ≡ Q j) → piled P n free ≡ piled Q n free
-unfolding piled
+piled-same : (P Q : ℕ → Bool) (n : ℕ) (free : List ℕ) → ((j : ℕ) → j < n → P j ≡ Q j) → freeListAfter P n free ≡ freeListAfter Q n free
+unfolding freeListAfter
 piled-same P Q zero free e = refl
 piled-same P Q (suc n) free e = rw (e n (omega arith), piled-same P Q n free (λ j l. e j (omega arith)))
 
@@ -85,11 +85,11 @@ module _ (f : ℕ → Content → Option Content) (i : ℕ) (s : Slot) where
     after-freed h = rw (e, q, h)
 
     drops-kept : (c : Content) → f w (o .content) ≡ some c → drops f i s ≡ false
-    unfolding drops dropsObject gone
+    unfolding drops dropsObject Slots.isFreed
     drops-kept c h = rw (e, q, h)
 
     drops-freed : f w (o .content) ≡ none → drops f i s ≡ true
-    unfolding drops dropsObject gone
+    unfolding drops dropsObject Slots.isFreed
     drops-freed h = rw (e, q, h)
 
 -- a slot freed, as the header has it
@@ -132,20 +132,20 @@ laid-swept {n} {top} {entries} {s} {dir} {c} m s′ g e d = record {
   dir-fits = g .dir-fits;
   dir-max = g .dir-max;
   top-fits = g .top-fits;
-  inside = λ j l. inside j l (isFreed m s j) refl;
+  inside = λ j l. inside j l (freedAt m s j) refl;
   below = λ j l z. (let q = here j l z in rw q (g .below j l (rw q at z)));
   listed = λ j l z. (let q = here j l z in rw q (g .listed j l (rw q at z)));
   ordered = λ i j li lj zi zj lt. (let p = here i li zi in let q = here j lj zj in rw (p, q) (g .ordered i j li lj (rw p at zi) (rw q at zj) (rw (p, q) at lt)));
 }
   where
-    inside : (j : ℕ) → j < n → (b : Bool) → isFreed m s j ≡ b → headerAt s′ j .start + headerAt s′ j .size ≤ length c
+    inside : (j : ℕ) → j < n → (b : Bool) → freedAt m s j ≡ b → headerAt s′ j .start + headerAt s′ j .size ≤ length c
     inside j l true q = rw (d j l ∙ swept-freed m s j q) (omega arith)
     inside j l false q = rw (d j l ∙ swept-kept m s j q) (g .inside j l)
 
     here : (j : ℕ) → j < n → (headerAt s′ j .size ≡ 0 → ⊥) → headerAt s′ j ≡ headerAt s j
-    here j l z = go (isFreed m s j) refl
+    here j l z = go (freedAt m s j) refl
       where
-        go : (b : Bool) → isFreed m s j ≡ b → headerAt s′ j ≡ headerAt s j
+        go : (b : Bool) → freedAt m s j ≡ b → headerAt s′ j ≡ headerAt s j
         go true q = absurd (z (ap (λ (h : Header). h .size) (d j l ∙ swept-freed m s j q)))
         go false q = d j l ∙ swept-kept m s j q
 
@@ -176,24 +176,24 @@ module _ (l : Layout) (t : State) (g : Good t) (roots : List ℕ) where
   fits i low = omega (arith, g .fresh, g .scalars-fit)
 
   -- kept exactly if marked
-  kept-test : (i : ℕ) → i < n → rawOf t i .kind ≢ 0 → mem (wordAt (t .slots) i) (kept view roots) ≡ not (isFreed marks (t .slots) i)
+  kept-test : (i : ℕ) → i < n → rawOf t i .kind ≢ 0 → mem (wordAt (t .slots) i) (kept view roots) ≡ not (freedAt marks (t .slots) i)
   unfolding rawAt
   kept-test i low k = go (ℕ-discrete (getD marks i 0) 0) (mem (wordAt (t .slots) i) (kept view roots)) refl
     where
       both : Marked marks i ↔ (mem (wordAt (t .slots) i) (kept view roots) ≡ true)
       both = kept-marked l t g roots i low k
 
-      go : Dec (getD marks i 0 ≡ 0) → (b : Bool) → mem (wordAt (t .slots) i) (kept view roots) ≡ b → b ≡ not (isFreed marks (t .slots) i)
+      go : Dec (getD marks i 0 ≡ 0) → (b : Bool) → mem (wordAt (t .slots) i) (kept view roots) ≡ b → b ≡ not (freedAt marks (t .slots) i)
       go (yes z) true e = absurd (let q = both .1 e in omega arith)
       go (yes z) false e = rw (freed-so marks (t .slots) i k z)
       go (no z) true e = rw (freed-marked marks (t .slots) i z)
       go (no z) false e = let q = both .0 (omega arith) in let y : _≡_ {A = ℕ} 0 1 = cc in absurd (omega arith)
 
-  rule-kept : (i : ℕ) → i < n → rawOf t i .kind ≢ 0 → isFreed marks (t .slots) i ≡ false → (c : Content) → rule (wordAt (t .slots) i) c ≡ some (settled (finalizable view roots) (wordAt (t .slots) i) c)
+  rule-kept : (i : ℕ) → i < n → rawOf t i .kind ≢ 0 → freedAt marks (t .slots) i ≡ false → (c : Content) → rule (wordAt (t .slots) i) c ≡ some (settled (finalizable view roots) (wordAt (t .slots) i) c)
   unfolding swept
   rule-kept i low k e c = rw (kept-test i low k, e)
 
-  rule-freed : (i : ℕ) → i < n → rawOf t i .kind ≢ 0 → isFreed marks (t .slots) i ≡ true → (c : Content) → rule (wordAt (t .slots) i) c ≡ none
+  rule-freed : (i : ℕ) → i < n → rawOf t i .kind ≢ 0 → freedAt marks (t .slots) i ≡ true → (c : Content) → rule (wordAt (t .slots) i) c ≡ none
   unfolding swept
   rule-freed i low k e c = rw (kept-test i low k, e)
 
@@ -219,17 +219,17 @@ module _ (l : Layout) (t : State) (g : Good t) (roots : List ℕ) where
   slot-word i low = (λ j. word record { gen = slot-gen i low j; boxed = slot-boxed i low j; slot = i }) ∙ named-word l t g i low
 
   -- freed in the model exactly if freed in the slots
-  drops-so : (i : ℕ) → i < n → drops rule i (slotOf t i) ≡ isFreed marks (t .slots) i
+  drops-so : (i : ℕ) → i < n → drops rule i (slotOf t i) ≡ freedAt marks (t .slots) i
   unfolding rawAt
-  drops-so i low = go (ℕ-discrete (rawOf t i .kind) 0) (isFreed marks (t .slots) i) refl
+  drops-so i low = go (ℕ-discrete (rawOf t i .kind) 0) (freedAt marks (t .slots) i) refl
     where
-      go : Dec (rawOf t i .kind ≡ 0) → (b : Bool) → isFreed marks (t .slots) i ≡ b → drops rule i (slotOf t i) ≡ b
+      go : Dec (rawOf t i .kind ≡ 0) → (b : Bool) → freedAt marks (t .slots) i ≡ b → drops rule i (slotOf t i) ≡ b
       go (yes k) b e = drops-none rule i (slotOf t i) (slot-none i low k) ∙ sym (freed-vacant marks (t .slots) i k) ∙ e
       go (no k) true e = drops-freed rule i (slotOf t i) _ (slot-some i low k) (slot-word i low) (rule-freed i low k e _)
       go (no k) false e = drops-kept rule i (slotOf t i) _ (slot-some i low k) (slot-word i low) _ (rule-kept i low k e _)
 
-  returns-so : (i : ℕ) → i < n → Slots.returns rule i (slotOf t i) ≡ isReturned marks (t .slots) i
-  unfolding Slots.returns isReturned
+  returns-so : (i : ℕ) → i < n → Slots.reusable rule i (slotOf t i) ≡ returnedAt marks (t .slots) i
+  unfolding Slots.reusable returnedAt
   returns-so i low = rw (drops-so i low, slot-gen i low)
 
   module _ {s′ x′ l′ : List ℕ} {y : Tally} (ex : x′ ≡ finalizedIn listed (t .scalars))
@@ -241,11 +241,11 @@ module _ (l : Layout) (t : State) (g : Good t) (roots : List ℕ) where
     scalars-length = ap length ex ∙ finalized-length listed (t .scalars)
 
     -- the slots afterwards
-    raw-kept : (i : ℕ) → i < n → isFreed marks (t .slots) i ≡ false → rawOf after i ≡ rawOf t i
+    raw-kept : (i : ℕ) → i < n → freedAt marks (t .slots) i ≡ false → rawOf after i ≡ rawOf t i
     unfolding rawAt
     raw-kept i low e = rw (sw .done i low, swept-kept marks (t .slots) i e)
 
-    raw-freed : (i : ℕ) → i < n → isFreed marks (t .slots) i ≡ true → rawOf after i ≡ Regions.rawOf (freedHeader (headerAt (t .slots) i)) (regionOf (freedHeader (headerAt (t .slots) i)) (t .cells))
+    raw-freed : (i : ℕ) → i < n → freedAt marks (t .slots) i ≡ true → rawOf after i ≡ Regions.rawOf (freedHeader (headerAt (t .slots) i)) (regionOf (freedHeader (headerAt (t .slots) i)) (t .cells))
     unfolding rawAt
     raw-freed i low e = rw (sw .done i low, swept-freed marks (t .slots) i e)
 
@@ -267,9 +267,9 @@ module _ (l : Layout) (t : State) (g : Good t) (roots : List ℕ) where
         go false e = refl
 
     good-after : (i : ℕ) → i < n → SlotGood (rawOf after i) (moreOf after i)
-    good-after i low = go (isFreed marks (t .slots) i) refl
+    good-after i low = go (freedAt marks (t .slots) i) refl
       where
-        go : (b : Bool) → isFreed marks (t .slots) i ≡ b → SlotGood (rawOf after i) (moreOf after i)
+        go : (b : Bool) → freedAt marks (t .slots) i ≡ b → SlotGood (rawOf after i) (moreOf after i)
         go true e = rw (raw-freed i low e) (freed-good (headerAt (t .slots) i) (regionOf (freedHeader (headerAt (t .slots) i)) (t .cells)) (moreOf after i))
         go false e = rw (raw-kept i low e, more-after i low) (flag-good (mem (wordAt (t .slots) i) listed) (g .each i low))
 
@@ -281,14 +281,14 @@ module _ (l : Layout) (t : State) (g : Good t) (roots : List ℕ) where
         ∙ (λ j. record { gen = sym (slot-gen i low) j; boxed = sym (slot-boxed i low) j; object = object-none (rawOf t i) (moreOf after i) k j })
         ∙ sym (after-none rule i (slotOf t i) (slot-none i low k))
 
-    freed-after : (i : ℕ) → i < n → rawOf t i .kind ≢ 0 → isFreed marks (t .slots) i ≡ true → slotFrom (rawOf after i) (moreOf after i) ≡ slotAfter rule i (slotOf t i)
+    freed-after : (i : ℕ) → i < n → rawOf t i .kind ≢ 0 → freedAt marks (t .slots) i ≡ true → slotFrom (rawOf after i) (moreOf after i) ≡ slotAfter rule i (slotOf t i)
     freed-after i low k e =
         ap (λ (r : Raw). slotFrom r (moreOf after i)) (raw-freed i low e)
         ∙ freed-slot (headerAt (t .slots) i) (regionOf (freedHeader (headerAt (t .slots) i)) (t .cells)) (moreOf after i)
         ∙ ap freedSlot (sym (slot-gen i low))
         ∙ sym (after-freed rule i (slotOf t i) _ (slot-some i low k) (slot-word i low) (rule-freed i low k e _))
 
-    kept-after : (i : ℕ) → i < n → rawOf t i .kind ≢ 0 → isFreed marks (t .slots) i ≡ false → slotFrom (rawOf after i) (moreOf after i) ≡ slotAfter rule i (slotOf t i)
+    kept-after : (i : ℕ) → i < n → rawOf t i .kind ≢ 0 → freedAt marks (t .slots) i ≡ false → slotFrom (rawOf after i) (moreOf after i) ≡ slotAfter rule i (slotOf t i)
     unfolding slotFrom rawAt
     kept-after i low k e =
         let o : objectOf (rawOf t i) (moreOf after i) ≡ some record { content = settled (finalizable view roots) (wordAt (t .slots) i) (contentOf (rawOf t i) (moreOf t i)); room = roomOf (rawOf t i) } =
@@ -300,14 +300,14 @@ module _ (l : Layout) (t : State) (g : Good t) (roots : List ℕ) where
     slot-after : (i : ℕ) → slotOf after i ≡ slotAfter rule i (slotOf t i)
     slot-after i = start (decLt i n)
       where
-        go : i < n → Dec (rawOf t i .kind ≡ 0) → (b : Bool) → isFreed marks (t .slots) i ≡ b → slotFrom (rawOf after i) (moreOf after i) ≡ slotAfter rule i (slotOf t i)
+        go : i < n → Dec (rawOf t i .kind ≡ 0) → (b : Bool) → freedAt marks (t .slots) i ≡ b → slotFrom (rawOf after i) (moreOf after i) ≡ slotAfter rule i (slotOf t i)
         go low (yes k) b e = vacant-after i low k
         go low (no k) true e = freed-after i low k e
         go low (no k) false e = kept-after i low k e
 
         start : Dec (i < n) → slotOf after i ≡ slotAfter rule i (slotOf t i)
         start (no h) = slot-unused after i (omega arith) ∙ sym (ap (slotAfter rule i) (slot-unused t i (omega arith)) ∙ after-none rule i unused refl)
-        start (yes low) = slot-used after i low ∙ go low (ℕ-discrete (rawOf t i .kind) 0) (isFreed marks (t .slots) i) refl
+        start (yes low) = slot-used after i low ∙ go low (ℕ-discrete (rawOf t i .kind) 0) (freedAt marks (t .slots) i) refl
 
     laid-after : Laid n (t .heap .top) (t .heap .entries) s′ (t .directory) (t .cells)
     laid-after = laid-swept marks s′ (g .laid) (sw .slots-length) (sw .done)
@@ -319,9 +319,9 @@ module _ (l : Layout) (t : State) (g : Good t) (roots : List ℕ) where
         let o : (slotAfter rule i (slotOf t i)) .object ≡ objectOf (rawOf after i) (moreOf after i) = ap (λ (s : Slot). s .object) (sym (slot-after i) ∙ slot-used after i low) in
         let w : weightIn (t .heap .weights) (objectOf (rawOf after i) (moreOf after i)) ≡ cond (eqb (headerAt s′ i .kind) 0) 0 (weightAt (t .heap .weights) (headerAt s′ i) (scalarsAt x′ i .f)) =
         weight-of-object (t .heap .weights) (headerAt s′ i) (regionOf (headerAt s′ i) (t .cells)) (moreOf after i) (good-after i low) (raw-length laid-after i low) in
-        go (isFreed marks (t .slots) i) refl ∙ sym w ∙ ap (weightIn (t .heap .weights)) (sym o)
+        go (freedAt marks (t .slots) i) refl ∙ sym w ∙ ap (weightIn (t .heap .weights)) (sym o)
       where
-        go : (b : Bool) → isFreed marks (t .slots) i ≡ b → cond (eqb (sweptHeader marks (t .slots) i .kind) 0) 0 (weightAt (t .heap .weights) (headerAt (t .slots) i) (scalarsAt x′ i .f)) ≡ cond (eqb (headerAt s′ i .kind) 0) 0 (weightAt (t .heap .weights) (headerAt s′ i) (scalarsAt x′ i .f))
+        go : (b : Bool) → freedAt marks (t .slots) i ≡ b → cond (eqb (sweptHeader marks (t .slots) i .kind) 0) 0 (weightAt (t .heap .weights) (headerAt (t .slots) i) (scalarsAt x′ i .f)) ≡ cond (eqb (headerAt s′ i .kind) 0) 0 (weightAt (t .heap .weights) (headerAt s′ i) (scalarsAt x′ i .f))
         go true e = rw (sw .done i low, swept-freed marks (t .slots) i e)
         go false e = rw (sw .done i low, swept-kept marks (t .slots) i e)
 
@@ -330,11 +330,11 @@ module _ (l : Layout) (t : State) (g : Good t) (roots : List ℕ) where
 
     pub freed-count : y .freed ≡ Slots.dropped rule table
     unfolding modelOf Slots.dropped
-    freed-count = sw .freed ∙ sum-same n (λ i. one (isFreed marks (t .slots) i)) (λ i. one (drops rule i (slotOf t i))) (λ i low. ap one (sym (drops-so i low)))
+    freed-count = sw .freed ∙ sum-same n (λ i. one (freedAt marks (t .slots) i)) (λ i. one (drops rule i (slotOf t i))) (λ i low. ap one (sym (drops-so i low)))
 
     pub free-after : freeList l′ (y .free) ≡ (rewritten table rule) .free
     unfolding modelOf rewritten
-    free-after = sw .list ∙ piled-same (isReturned marks (t .slots)) (λ i. Slots.returns rule i (slotOf t i)) n (freeList (t .list) (t .heap .free)) (λ i low. sym (returns-so i low))
+    free-after = sw .list ∙ piled-same (returnedAt marks (t .slots)) (λ i. Slots.reusable rule i (slotOf t i)) n (freeList (t .list) (t .heap .free)) (λ i low. sym (returns-so i low))
 
     pub weights-after : y .weight ≡ weightsKept (t .heap .weights) (rewritten table rule)
     unfolding modelOf rewritten weightsKept
@@ -385,8 +385,8 @@ module _ (l : Layout) (t : State) (g : Good t) (roots : List ℕ) where
     }
       where
         smaller : (j : ℕ) → sweptHeader marks (t .slots) j .size ≤ headerAt (t .slots) j .size
-        smaller j = go (isFreed marks (t .slots) j) refl
+        smaller j = go (freedAt marks (t .slots) j) refl
           where
-            go : (b : Bool) → isFreed marks (t .slots) j ≡ b → sweptHeader marks (t .slots) j .size ≤ headerAt (t .slots) j .size
+            go : (b : Bool) → freedAt marks (t .slots) j ≡ b → sweptHeader marks (t .slots) j .size ≤ headerAt (t .slots) j .size
             go true e = rw (swept-freed marks (t .slots) j e) (omega arith)
             go false e = rw (swept-kept marks (t .slots) j e) (omega arith)

@@ -17,53 +17,53 @@ use Rattle.slots.proofs.HeaderLaws.{headerAt-same, headerAt-other, length-setHe
 use Rattle.slots.proofs.FreeListLaws.{listed-kept, listed-push, free-push}
 use Rattle.cells.specs.Regions.{sumTo}
 use Rattle.model.specs.Slots as Slots
-use Rattle.model.specs.Slots.{one, piled}
+use Rattle.model.specs.Slots.{one, freeListAfter}
 use Rattle.model.specs.declared.Weights.{Weights}
 use Rattle.collector.specs.declared.Tally.{Tally}
-use Rattle.collector.specs.Sweep.{bytesAt, weightAt, Weighable, freedHeader, nextGeneration, isFreed, isReturned, sweptHeader, filledIn, keptTally, retiredTally, returnedTally, Looked, vacant, stays, retires, returns, Lookable, Swept, Sweepable}
+use Rattle.collector.specs.Sweep.{bytesAt, weightAt, Weighable, freedHeader, nextGeneration, freedAt, returnedAt, sweptHeader, filledIn, keptTally, retiredTally, returnedTally, Looked, vacant, stays, retires, returns, Lookable, Swept, Sweepable}
 use Rattle.collector.proofs.Weighing.{weight-le}
 
 -- ---- what becomes of one slot
 
 module _ (m s : List ℕ) (j : ℕ) where
-  pub freed-vacant : headerAt s j .kind ≡ 0 → isFreed m s j ≡ false
-  unfolding isFreed
+  pub freed-vacant : headerAt s j .kind ≡ 0 → freedAt m s j ≡ false
+  unfolding freedAt
   freed-vacant e = rw (eq-eqb (headerAt s j .kind) 0 e)
 
-  pub freed-marked : getD m j 0 ≢ 0 → isFreed m s j ≡ false
-  unfolding isFreed
+  pub freed-marked : getD m j 0 ≢ 0 → freedAt m s j ≡ false
+  unfolding freedAt
   freed-marked z = rw (ne-eqb (getD m j 0) 0 z) (go (not (eqb (headerAt s j .kind) 0)))
     where
       go : (b : Bool) → (b && false) ≡ false
       go true = refl
       go false = refl
 
-  pub freed-so : headerAt s j .kind ≢ 0 → getD m j 0 ≡ 0 → isFreed m s j ≡ true
-  unfolding isFreed
+  pub freed-so : headerAt s j .kind ≢ 0 → getD m j 0 ≡ 0 → freedAt m s j ≡ true
+  unfolding freedAt
   freed-so k z = rw (ne-eqb (headerAt s j .kind) 0 k, eq-eqb (getD m j 0) 0 z)
 
-  pub swept-kept : isFreed m s j ≡ false → sweptHeader m s j ≡ headerAt s j
+  pub swept-kept : freedAt m s j ≡ false → sweptHeader m s j ≡ headerAt s j
   unfolding sweptHeader
   swept-kept e = rw e
 
-  pub swept-freed : isFreed m s j ≡ true → sweptHeader m s j ≡ freedHeader (headerAt s j)
+  pub swept-freed : freedAt m s j ≡ true → sweptHeader m s j ≡ freedHeader (headerAt s j)
   unfolding sweptHeader
   swept-freed e = rw e
 
-  pub returned-not : isFreed m s j ≡ false → isReturned m s j ≡ false
-  unfolding isReturned
+  pub returned-not : freedAt m s j ≡ false → returnedAt m s j ≡ false
+  unfolding returnedAt
   returned-not e = rw e
 
-  pub returned-retired : headerAt s j .half % 32768 ≡ 32767 → isReturned m s j ≡ false
-  unfolding isReturned
-  returned-retired g = rw (eq-eqb (headerAt s j .half % 32768) 32767 g) (go (isFreed m s j))
+  pub returned-retired : headerAt s j .half % 32768 ≡ 32767 → returnedAt m s j ≡ false
+  unfolding returnedAt
+  returned-retired g = rw (eq-eqb (headerAt s j .half % 32768) 32767 g) (go (freedAt m s j))
     where
       go : (b : Bool) → (b && false) ≡ false
       go true = refl
       go false = refl
 
-  pub returned-so : isFreed m s j ≡ true → headerAt s j .half % 32768 ≢ 32767 → isReturned m s j ≡ true
-  unfolding isReturned
+  pub returned-so : freedAt m s j ≡ true → headerAt s j .half % 32768 ≢ 32767 → returnedAt m s j ≡ true
+  unfolding returnedAt
   returned-so e g = rw (e, ne-eqb (headerAt s j .half % 32768) 32767 g)
 
 -- the next generation's first word
@@ -88,7 +88,7 @@ filled-none s j k = rw (eq-eqb (headerAt s j .kind) 0 k)
 
 module _ {n : ℕ} {w : Weights} {s₀ x l₀ m : List ℕ} {free₀ : ℕ} (g : Sweepable n w s₀ x l₀ m free₀) where
   pub swept-start : Swept n w s₀ x l₀ m free₀ 0 s₀ l₀ record { free = free₀; freed = 0; weight = 0; taken = 0; present = 0 }
-  unfolding piled Slots.sumTo sumTo
+  unfolding freeListAfter Slots.sumTo sumTo
   swept-start = record {
     slots-length = refl;
     list-length = refl;
@@ -136,7 +136,7 @@ module _ {n : ℕ} {w : Weights} {s₀ x l₀ m : List ℕ} {free₀ : ℕ} (g :
 
     -- one slot more, by what became of it
     pub swept-step : {s′ l′ : List ℕ} {t′ : Tally} → Looked s x l m i w t s′ l′ t′ → Swept n w s₀ x l₀ m free₀ (i + 1) s′ l′ t′
-    unfolding piled Slots.sumTo sumTo
+    unfolding freeListAfter Slots.sumTo sumTo
     swept-step {s′} {l′} {t′} (vacant k es el et) =
         let k₀ : headerAt s₀ i .kind ≡ 0 = sym kind-same ∙ k in
         let nf = freed-vacant m s₀ i k₀ in

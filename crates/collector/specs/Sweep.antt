@@ -12,7 +12,7 @@ use Rattle.slots.specs.FreeList.{Listed, freeList}
 use Rattle.slots.specs.declared.Header.{Header}
 use Rattle.cells.specs.Regions.{sumTo}
 use Rattle.model.specs.Slots as Slots
-use Rattle.model.specs.Slots.{one, piled}
+use Rattle.model.specs.Slots.{one, freeListAfter}
 use Rattle.model.specs.declared.Weights.{Weights}
 use Rattle.account.specs.Account.{afterSweep, saturated}
 use Rattle.heap.specs.declared.Heap.{Heap}
@@ -60,15 +60,15 @@ abbrev pub freedHeader : Header → Header
 freedHeader h = emptyHeader (nextGeneration (h .half % 32768))
 
 -- the object in slot j is not marked
-unfoldable pub isFreed : List ℕ → List ℕ → ℕ → Bool
-isFreed m s j = not (eqb (headerAt s j .kind) 0) && eqb (getD m j 0) 0
+unfoldable pub freedAt : List ℕ → List ℕ → ℕ → Bool
+freedAt m s j = not (eqb (headerAt s j .kind) 0) && eqb (getD m j 0) 0
 
 -- and its slot may be used again
-unfoldable pub isReturned : List ℕ → List ℕ → ℕ → Bool
-isReturned m s j = isFreed m s j && not (eqb (headerAt s j .half % 32768) 32767)
+unfoldable pub returnedAt : List ℕ → List ℕ → ℕ → Bool
+returnedAt m s j = freedAt m s j && not (eqb (headerAt s j .half % 32768) 32767)
 
 unfoldable pub sweptHeader : List ℕ → List ℕ → ℕ → Header
-sweptHeader m s j = cond (isFreed m s j) (freedHeader (headerAt s j)) (headerAt s j)
+sweptHeader m s j = cond (freedAt m s j) (freedHeader (headerAt s j)) (headerAt s j)
 
 -- 1 for a slot with an object
 abbrev pub filledIn : List ℕ → ℕ → ℕ
@@ -116,8 +116,8 @@ pub record Swept (n : ℕ) (w : Weights) (s₀ x l₀ m : List ℕ) (free₀ i :
   pub done : (j : ℕ) → j < i → headerAt s j ≡ sweptHeader m s₀ j
   pub left : (j : ℕ) → i ≤ j → headerAt s j ≡ headerAt s₀ j
   pub listed : Listed s l n (t .free)
-  pub list : freeList l (t .free) ≡ piled (isReturned m s₀) i (freeList l₀ free₀)
-  pub freed : t .freed ≡ Slots.sumTo i (λ j. one (isFreed m s₀ j))
+  pub list : freeList l (t .free) ≡ freeListAfter (returnedAt m s₀) i (freeList l₀ free₀)
+  pub freed : t .freed ≡ Slots.sumTo i (λ j. one (freedAt m s₀ j))
   pub weight : t .weight ≡ Slots.sumTo i (λ j. cond (eqb (sweptHeader m s₀ j .kind) 0) 0 (weightAt w (headerAt s₀ j) (scalarsAt x j .f)))
   pub taken : t .taken ≡ sumTo (λ j. sweptHeader m s₀ j .size) i
   pub present : t .present ≡ sumTo (λ j. cond (eqb (sweptHeader m s₀ j .kind) 0) 0 1) i

@@ -14,7 +14,7 @@ use Rattle.slots.specs.declared.Scalars.{Scalars}
 use Rattle.slots.proofs.HeaderLaws.{store-scalar, store-scalar-other}
 use Rattle.layout.specs.Layout.{Layout}
 use Rattle.model.specs.View.{mem}
-use Rattle.model.specs.Slots.{occ}
+use Rattle.model.specs.Slots.{countIn}
 use Rattle.marking.specs.Children.{wordAt}
 use Rattle.finalizing.specs.Order.{Own, Owned, seqOf, sortWords}
 use Rattle.finalizing.specs.Dropped.{isDropped, sieve, droppedSlots, marksReached, droppedWords, finalizedIn, Listable}
@@ -83,26 +83,26 @@ pub record Member (P : ℕ → Bool) (word : ℕ → ℕ) (n w : ℕ) : Type 0 w
   pub is : w ≡ word slot
 
 module _ (P : ℕ → Bool) (word : ℕ → ℕ) where
-  member-from : (n f i w : ℕ) → i + f ≤ n → 0 < occ w (sieve P word f i) → Member P word n w
+  member-from : (n f i w : ℕ) → i + f ≤ n → 0 < countIn w (sieve P word f i) → Member P word n w
   unfolding sieve
   member-from n zero i w l h = absurd (occ-none w h)
   member-from n (suc f) i w l h = go (P i) refl h (λ p. member-from n f (suc i) w (omega arith) p)
     where
-      go : (b : Bool) → P i ≡ b → 0 < occ w (cond b (word i ∷ sieve P word f (suc i)) (sieve P word f (suc i))) → (0 < occ w (sieve P word f (suc i)) → Member P word n w) → Member P word n w
+      go : (b : Bool) → P i ≡ b → 0 < countIn w (cond b (word i ∷ sieve P word f (suc i)) (sieve P word f (suc i))) → (0 < countIn w (sieve P word f (suc i)) → Member P word n w) → Member P word n w
       go true e p ih = ⊎-elim (λ q. record { slot = i; low = omega arith; chosen = e; is = q }) ih (occ-cases w (word i) (sieve P word f (suc i)) p)
       go false e p ih = ih p
 
-mem-occ : (w : ℕ) (ws : List ℕ) → mem w ws ≡ true → 0 < occ w ws
+mem-occ : (w : ℕ) (ws : List ℕ) → mem w ws ≡ true → 0 < countIn w ws
 unfolding mem
 mem-occ w [] e = let z : _≡_ {A = ℕ} 0 1 = cc in absurd (omega arith)
 mem-occ w (x ∷ xs) e = go (ℕ-discrete w x) (λ q. mem-occ w xs q)
   where
-    go : Dec (w ≡ x) → (mem w xs ≡ true → 0 < occ w xs) → 0 < occ w (x ∷ xs)
+    go : Dec (w ≡ x) → (mem w xs ≡ true → 0 < countIn w xs) → 0 < countIn w (x ∷ xs)
     go (yes q) ih = rw q (occ-head x xs)
     go (no q) ih = occ-tail w x xs (ih (rw (ne-eqb w x q) at e))
 
 module _ (l : Layout) (s x c : List ℕ) (n : ℕ) (roots : List ℕ) where
-  pub dropped-member : (w : ℕ) → 0 < occ w (droppedWords l s x c n roots) → Member (isDropped s x (marksReached l s x c n roots)) (wordAt s) n w
+  pub dropped-member : (w : ℕ) → 0 < countIn w (droppedWords l s x c n roots) → Member (isDropped s x (marksReached l s x c n roots)) (wordAt s) n w
   unfolding droppedWords
   dropped-member w h = member-from (isDropped s x (marksReached l s x c n roots)) (wordAt s) n n 0 w (omega arith) (rw (sort-occ (seqOf s) w (droppedSlots s x (marksReached l s x c n roots) n)) at h)
 
