@@ -1,3 +1,4 @@
 pub mod MakeLaws
 pub mod PlainLaws
 pub mod RegionLaws
+pub mod CoroutineLaws

@@ -1,6 +1,6 @@
 // Allocation of every kind but maps and iterators.
 ghost use mathlib.Core.Path.{_≡_};
-ghost use Prim.Native.Nat.{_+_, _*_};
+ghost use Prim.Native.Nat.{_+_, _*_, _/_, _≤_};
 ghost use lib.ListN.{length, replicate};
 ghost use Rattle.account.specs.Account.{saturated};
 ghost use Rattle.model.specs.Calls as Calls;
@@ -10,6 +10,8 @@ ghost use Rattle.heap.specs.Promise.{Performs};
 ghost use Rattle.heap.specs.Answers.{madeIs};
 ghost use Rattle.heap.specs.Placing.{newWord};
 ghost use Rattle.heap.specs.declared.Reading.the-variants.{Is};
+ghost use Rattle.heap.specs.Kinds.{framesIn};
+ghost use Rattle.allocation.specs.Coroutines.{Begins, Seated, callOf, refusedWith};
 ghost use Rattle.allocation.specs.Making.{MadePlain, MadeWords, Placeable, Prepared, headerOf, placed, withNext};
 use heap::Done;
 use heap::Heap;
@@ -17,6 +19,7 @@ use heap::Made;
 use heap::Reading;
 use heap::Refusal;
 use heap::Settled;
+use model::Weights;
 use slots::Header;
 use slots::Scalars;
 
@@ -36,6 +39,8 @@ const ARRAY: u64 = 6;
 const STRUCT: u64 = 8;
 
 const FUNCTION: u64 = 9;
+
+const COROUTINE: u64 = 11;
 
 // A header for the placing, which gives half, start and entry.
 pub fn header(kind: u64, value: u64, mode: u64, len: u64, size: u64) -> Header
@@ -473,4 +478,169 @@ pub fn new_string(
             finish(roomy, slots, scalars, list, directory, cells, h, weight)
         }
     }
+}
+
+// What a coroutine is made with, beside its registers and frames.
+pub struct Coroutine {
+    pub state: u64,
+    pub sequence: u64,
+    pub payload: u64,
+    pub key: u64,
+    pub result: u64,
+    pub signal: u64,
+}
+
+// A coroutine made but for its frames: `count` of them go into the cells from `at` on, none where
+// the call is refused.
+pub struct Begun {
+    pub made: Made,
+    pub at: usize,
+    pub count: usize,
+}
+
+fn coroutine_bytes(weights: Weights, registers: u64, frames: u64) -> u64
+    ensures { λ r. ⌜ r ≡ saturated (weights .slot + (weights .coroutine + 8 * registers + weights .frame * frames)) ⌝ }
+{
+    let base = account::saturating_add(weights.slot, weights.coroutine);
+    account::saturating_add(
+        word_bytes(base, registers),
+        account::saturating_mul(weights.frame, frames),
+    )
+}
+
+fn coroutine_cells(registers: u64, frames: u64) -> u64
+    ensures { λ r. ⌜ r ≡ saturated (registers + 4 * frames) ⌝ }
+{
+    account::saturating_add(registers, account::saturating_mul(4, frames))
+}
+
+// The coroutine is placed, with its scalars and registers; its frames' cells are as they were.
+fn place_coroutine(
+    heap: Heap,
+    slots: &mut [u64],
+    scalars: &mut [u64],
+    list: &[u64],
+    directory: &mut [u64],
+    cells: &mut [u64],
+    k: Coroutine,
+    registers: &[u64],
+    frames: u64,
+    size: u64,
+    bytes: u64,
+) -> Made
+    requires { ⌜ Placeable (state heap (now slots) (now scalars) (now list) (now directory) (now cells)) bytes size × (length (now registers) ≤ size) ⌝ }
+    ensures { λ r. ⌜ Seated (state heap (now (slots .entry)) (now (scalars .entry)) (now (list .entry)) (now (directory .entry)) (now (cells .entry))) k (now (registers .entry)) frames size bytes (r .answer) (state (r .heap) (now (slots .exit)) (now (scalars .exit)) (now (list .entry)) (now (directory .exit)) (now (cells .exit))) ⌝ }
+{
+    let x = Scalars {
+        a: 0,
+        b: k.payload,
+        c: k.key,
+        d: k.result,
+        e: k.signal,
+        f: frames,
+        g: 0,
+        h: 0,
+    };
+    let i = heap::next_slot(list, heap.fresh, heap.free);
+    slots::write_scalars(scalars, i as usize, x);
+    cells::copy_words(registers, cells, heap.top as usize);
+    let h = header(COROUTINE, k.sequence, k.state, registers.len() as u64, size);
+    finish(heap, slots, scalars, list, directory, cells, h, bytes)
+}
+
+fn refuse(heap: Heap, q: Refusal) -> Begun
+    ensures { λ r. ⌜ r ≡ refusedWith heap q ⌝ }
+{
+    Begun {
+        made: Made {
+            heap,
+            answer: Reading::Refused(q),
+        },
+        at: 0,
+        count: 0,
+    }
+}
+
+// All of a new coroutine but the words of its frames.
+fn begin(
+    heap: Heap,
+    slots: &mut [u64],
+    scalars: &mut [u64],
+    list: &[u64],
+    directory: &mut [u64],
+    cells: &mut [u64],
+    k: Coroutine,
+    registers: &[u64],
+    frames: usize,
+) -> Begun
+    requires { ⌜ Good (state heap (now slots) (now scalars) (now list) (now directory) (now cells)) ⌝ }
+    ensures { λ r. ⌜ Begins (state heap (now (slots .entry)) (now (scalars .entry)) (now (list .entry)) (now (directory .entry)) (now (cells .entry))) k (now (registers .entry)) frames r (state (r .made .heap) (now (slots .exit)) (now (scalars .exit)) (now (list .entry)) (now (directory .exit)) (now (cells .exit))) ⌝ }
+{
+    if 4 < k.state {
+        return refuse(heap, Refusal::BadType);
+    }
+    let n = frames as u64;
+    let words = registers.len() as u64;
+    let weights = heap.weights;
+    let bytes = coroutine_bytes(weights, words, n);
+    let size = coroutine_cells(words, n);
+    let p = prepare(heap, slots, scalars, list, directory, cells, bytes, size);
+    let roomy = p.heap;
+    let done = p.done;
+    match done {
+        Done::Refused(q) => refuse(roomy, q),
+        Done::Accepted => {
+            let at = roomy.top as usize + registers.len();
+            let made = place_coroutine(
+                roomy,
+                slots,
+                scalars,
+                list,
+                directory,
+                cells,
+                k,
+                registers,
+                n,
+                size,
+                bytes,
+            );
+            Begun {
+                made,
+                at,
+                count: frames,
+            }
+        }
+    }
+}
+
+// Frames as words, four to a frame: function, counter, base, closure.
+pub fn new_coroutine_flat(
+    heap: Heap,
+    slots: &mut [u64],
+    scalars: &mut [u64],
+    list: &[u64],
+    directory: &mut [u64],
+    cells: &mut [u64],
+    k: Coroutine,
+    registers: &[u64],
+    frames: &[u64],
+) -> Made
+    requires { ⌜ Good (state heap (now slots) (now scalars) (now list) (now directory) (now cells)) ⌝ }
+    ensures { λ r. ⌜ Performs (callOf k (now (registers .entry)) (framesIn (now (frames .entry)) 0 (length (now (frames .entry)) / 4))) (state heap (now (slots .entry)) (now (scalars .entry)) (now (list .entry)) (now (directory .entry)) (now (cells .entry))) (madeIs (r .answer)) (state (r .heap) (now (slots .exit)) (now (scalars .exit)) (now (list .entry)) (now (directory .exit)) (now (cells .exit))) ⌝ }
+{
+    let b = begin(
+        heap,
+        slots,
+        scalars,
+        list,
+        directory,
+        cells,
+        k,
+        registers,
+        frames.len() / 4,
+    );
+    let end = b.count * 4;
+    cells::copy_words(&frames[0..end], cells, b.at);
+    let made = b.made;
+    made
 }
