@@ -46,6 +46,7 @@ trait Side {
     fn iterate(&self, steps: usize) -> u64;
     fn live(&self) -> u64;
     fn places(&self) -> u64;
+    fn clear(&mut self);
 }
 
 struct Ours<'a> {
@@ -80,6 +81,10 @@ impl Side for Ours<'_> {
 
     fn places(&self) -> u64 {
         self.words[0]
+    }
+
+    fn clear(&mut self) {
+        self.words = [0; 7];
     }
 }
 
@@ -144,9 +149,13 @@ impl Side for Original {
     fn places(&self) -> u64 {
         self.0.entries().len() as u64
     }
+
+    fn clear(&mut self) {
+        self.0 = MapStore::default();
+    }
 }
 
-const NAMES: [&str; 9] = ["put", "put_again", "find", "find_shuffled", "find_absent", "iterate", "remove", "put_others", "remove_rest"];
+const NAMES: [&str; 10] = ["put", "put_again", "find", "find_shuffled", "find_absent", "iterate", "remove", "put_others", "remove_rest", "put_churn"];
 const N: usize = 100_000;
 
 struct Load {
@@ -155,10 +164,12 @@ struct Load {
     absent: Keys,
     first: Keys,
     rest: Keys,
+    gone: Keys,
     others: Keys,
 }
 
-/// One life of a map: its times, and the numbers answered.
+/// Two lives of a map: their times, and the numbers answered. In the second, of half the keys, the entries outgrow their capacity
+/// and the index does not.
 fn life(m: &mut dyn Side, w: &Load) -> (Vec<f64>, Vec<u64>) {
     let (mut times, mut said) = (vec![], vec![]);
     let mut step = |f: &mut dyn FnMut() -> u64| {
@@ -176,6 +187,12 @@ fn life(m: &mut dyn Side, w: &Load) -> (Vec<f64>, Vec<u64>) {
     step(&mut || m.remove(&w.first));
     step(&mut || m.put(&w.others));
     step(&mut || m.remove(&w.rest));
+    said.extend([m.live(), m.places()]);
+    m.clear();
+    said.extend([m.put(&w.first), m.remove(&w.gone)]);
+    let start = Instant::now();
+    said.push(black_box(m.put(&w.others)));
+    times.push(start.elapsed().as_nanos() as f64);
     said.extend([m.live(), m.places()]);
     (times, said)
 }
@@ -209,6 +226,7 @@ fn main() {
         ordered: Keys::new(keys),
         first: shuffled.part(0, N / 2),
         rest: shuffled.part(N / 2, N),
+        gone: shuffled.part(0, N / 5),
         others: absent.part(0, N / 4),
         absent,
         shuffled,

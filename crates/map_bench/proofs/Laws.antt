@@ -9,7 +9,7 @@ use native.Mathlib.Omega.{arith}
 use lib.Dec.{eqb}
 use lib.ListN.{length, getD}
 use Rattle.map_store.specs.Store as S
-use Rattle.map_store.specs.View.{storeOf, roomOf}
+use Rattle.map_store.specs.View.{storeOf}
 use Rattle.map_store.specs.Map.{Good, Became, Valued}
 use Rattle.map_store.specs.declared.MapStore.{MapStore}
 use Rattle.map_bench.specs.Loops.{loaded, bare, Ran, Answered, putTo, removedTo, foundTo, oneOf, front, onward, walked}
@@ -91,16 +91,6 @@ remove-zero hs ks s = refl
 pub find-zero : (hs ks : List ℕ) (s : S.Store) → 0 ≡ foundTo hs ks 0 s
 unfolding foundTo
 find-zero hs ks s = refl
-
--- the cells that a removal by key wants are no more than those that a removal wants
-key-pick : (o : Option ℕ) (s : S.Store) (r : S.Room) (n : ℕ) → S.cellsOf r ≤ n → S.cellsOf (S.roomAfterRemove s r) ≤ n → S.cellsOf (S.roomAfterFound o s r) ≤ n
-unfolding S.roomAfterFound
-key-pick none s r n a b = a
-key-pick (some p) s r n a b = b
-
-pub key-cells : (hash key : ℕ) (s : MapStore) (cells : List ℕ) (wanted : ℕ) → Good s cells → wanted ≡ S.cellsOf (S.roomAfterRemove (storeOf s cells) (roomOf s)) → wanted ≤ length cells
-    → S.cellsOf (S.roomAfterRemoveKey false hash key (storeOf s cells) (roomOf s)) ≤ length cells
-key-cells hash key s cells wanted G e l = key-pick (S.find false hash key (storeOf s cells)) (storeOf s cells) (roomOf s) (length cells) (omega (arith, G .room)) (omega arith)
 
 -- a loop under way, after i keys
 pub record Running (rule : ℕ → S.Store → S.Store) (words₀ cells₀ cells : List ℕ) (store : MapStore) (i : ℕ) : Type 0 where

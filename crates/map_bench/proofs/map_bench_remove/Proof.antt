@@ -3,7 +3,8 @@ use native.Mathlib.Omega.{arith}
 use borrow.Author.Needs.{needs}
 use lib.ListN.{length}
 use Rattle.map_bench.specs.Loops.{removedTo}
-use Rattle.map_bench.proofs.Laws.{Running, run-start, run-end, remove-zero, remove-noted, remove-done, key-cells}
+use Rattle.map_bench.proofs.Laws.{Running, run-start, run-end, remove-zero, remove-noted, remove-done}
+use Rattle.map_store.specs.GoodLaws.{key-cells}
 use Rattle.map_bench.proofs.map_bench_remove.Statement.{statement}
 use Rattle.map_bench.proofs.map_bench_remove.Tie as tie
 
@@ -44,7 +45,10 @@ returns : tie.Need-returns Inv-loop μ-loop
 returns c = run-end _ _ _ _ _ _ ((c .before .before .before .before .before .before .before .before .loop .inv)) (remove-noted _ _ _) _ ((c .save .ensures))
 
 remove-key-requires : tie.Need-remove-key-requires Inv-loop μ-loop
-remove-key-requires c κs = ((c .before .before .before .before .before .before .before .loop .inv) .good, key-cells _ _ _ _ _ ((c .before .before .before .before .before .before .before .loop .inv) .good) ((c .before .before .cells-after-remove .ensures)) ((c .before .if1 .left)))
+remove-key-requires c κs =
+    let G = c .before .before .before .before .before .before .before .loop .inv .good in
+    let l = c .before .if1 .left in
+    (G, key-cells _ _ _ _ _ G (rw (c .before .before .cells-after-remove .ensures) at l))
 
 add-i : tie.Need-add-i Inv-loop μ-loop
 add-i c = omega (arith, (c .before .before .before .before .before .before .before .before .before .loop-test .taken), (c .before .before .before .before .before .before .before .before .before .before .before .before .before .before .before .before .good))
