@@ -1,2 +1,3 @@
 pub mod Making
+pub mod Frames
 pub mod Coroutines

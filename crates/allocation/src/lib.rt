@@ -1,7 +1,7 @@
 // Allocation of every kind but maps and iterators.
 ghost use mathlib.Core.Path.{_≡_};
 ghost use Prim.Native.Nat.{_+_, _*_, _/_, _≤_};
-ghost use lib.ListN.{length, replicate};
+ghost use lib.ListN.{length, replicate, take};
 ghost use Rattle.account.specs.Account.{saturated};
 ghost use Rattle.model.specs.Calls as Calls;
 ghost use Rattle.heap.specs.State.{state};
@@ -12,6 +12,7 @@ ghost use Rattle.heap.specs.Placing.{newWord};
 ghost use Rattle.heap.specs.declared.Reading.the-variants.{Is};
 ghost use Rattle.heap.specs.Kinds.{framesIn};
 ghost use Rattle.allocation.specs.Coroutines.{Begins, Seated, callOf, refusedWith};
+ghost use Rattle.allocation.specs.Frames.{copied, putFrame};
 ghost use Rattle.allocation.specs.Making.{MadePlain, MadeWords, Placeable, Prepared, headerOf, placed, withNext};
 use heap::Done;
 use heap::Heap;
@@ -19,6 +20,7 @@ use heap::Made;
 use heap::Reading;
 use heap::Refusal;
 use heap::Settled;
+use model::Frame;
 use model::Weights;
 use slots::Header;
 use slots::Scalars;
@@ -643,4 +645,57 @@ pub fn new_coroutine_flat(
     cells::copy_words(&frames[0..end], cells, b.at);
     let made = b.made;
     made
+}
+
+// Frame k's four words, in the cells from `at` on.
+fn put_frame(cells: &mut [u64], at: usize, k: usize, f: Frame)
+    requires { ⌜ at + 4 * k + 4 ≤ length (now cells) ⌝ }
+    ensures { λ r. ⌜ now (cells .exit) ≡ putFrame (now (cells .entry)) (at + 4 * k) f ⌝ }
+{
+    let p = at + 4 * k;
+    cells[p] = f.function;
+    cells[p + 1] = f.counter;
+    cells[p + 2] = f.base;
+    cells[p + 3] = f.closure;
+}
+
+// The first n frames of the lent list, field by field into the cells.
+fn copy_frames(frames: &[Frame], cells: &mut [u64], at: usize, n: usize)
+    requires { ⌜ (n ≤ length (now frames)) × (at + 4 * n ≤ length (now cells)) ⌝ }
+    ensures { λ r. ⌜ now (cells .exit) ≡ copied (take n (now (frames .entry))) (now (cells .entry)) at ⌝ }
+{
+    let mut i = 0;
+    while i < n {
+        put_frame(cells, at, i, frames[i]);
+        i += 1;
+    }
+}
+
+pub fn new_coroutine(
+    heap: Heap,
+    slots: &mut [u64],
+    scalars: &mut [u64],
+    list: &[u64],
+    directory: &mut [u64],
+    cells: &mut [u64],
+    k: Coroutine,
+    registers: &[u64],
+    frames: &[Frame],
+) -> Made
+    requires { ⌜ Good (state heap (now slots) (now scalars) (now list) (now directory) (now cells)) ⌝ }
+    ensures { λ r. ⌜ Performs (callOf k (now (registers .entry)) (now (frames .entry))) (state heap (now (slots .entry)) (now (scalars .entry)) (now (list .entry)) (now (directory .entry)) (now (cells .entry))) (madeIs (r .answer)) (state (r .heap) (now (slots .exit)) (now (scalars .exit)) (now (list .entry)) (now (directory .exit)) (now (cells .exit))) ⌝ }
+{
+    let b = begin(
+        heap,
+        slots,
+        scalars,
+        list,
+        directory,
+        cells,
+        k,
+        registers,
+        frames.len(),
+    );
+    copy_frames(frames, cells, b.at, b.count);
+    b.made
 }
