@@ -227,7 +227,7 @@ module _ {t m a : State} {k : Coroutine} {ws : List ℕ} {n bytes : ℕ} {r : Re
       rw e
       record {
         some-kind = λ z. absurd (omega (arith, z));
-        fit = new-good header region (scalarsFor k n) (omega arith) (omega arith) (λ z. absurd (omega (arith, z))) (λ z. absurd (omega (arith, z))) (λ z. absurd (omega (arith, z))) (λ l z. absurd (omega (arith, z))) (λ l z. absurd (omega (arith, z))) (λ z. refl);
+        fit = new-good header region (scalarsFor k n) (omega arith) (omega arith) (λ z. absurd (omega (arith, z))) (λ l z. absurd (omega (arith, z))) (λ l z ne. absurd (omega (arith, z))) (λ z. absurd (omega (arith, z))) (λ z. absurd (omega (arith, z))) (λ z. refl);
         content = content-coroutine (newRaw 65536 header region) (scalarsFor k n) refl ∙ rw (registers, frames);
         room = room-none (newRaw 65536 header region) (λ z. absurd (omega (arith, z))) (λ z. absurd (omega (arith, z)));
       }

@@ -1,5 +1,5 @@
 -- A new object of any kind: refused, or placed. Assumes nothing.
-use Prim.Native.Nat.{ℕ, _+_, _*_, _≤_, _<_}
+use Prim.Native.Nat.{ℕ, _+_, _*_, _/_, _≤_, _<_}
 use mathlib.Core.Path.{_≡_, refl, ap, sym, _∙_}
 use mathlib.Core.List.{List, []}
 use mathlib.Core.Option.{some}
@@ -15,6 +15,7 @@ use Rattle.slots.proofs.HeaderLaws.{scalarsAt-same}
 use Rattle.cells.specs.Moves.{stringCells}
 use Rattle.history.proofs.Facts.{eqb-no, eqb-yes, leb-no, leb-yes}
 use Rattle.layout.specs.Layout.{Layout}
+use Rattle.map_store.specs.Map as Map
 use Rattle.map_store.specs.Store.{Room}
 use Rattle.model.specs.Calls.{Call, add, effect}
 use Rattle.model.specs.Content.{Content, bytesOf, cellsOf}
@@ -30,7 +31,7 @@ use Rattle.heap.specs.declared.Reading.the-variants as Read
 use Rattle.heap.specs.declared.Refusal.{Refusal}
 use Rattle.heap.specs.declared.Refusal.the-variants as No
 use Rattle.heap.specs.Answers.{madeIs, numberOf}
-use Rattle.heap.specs.Kinds.{contentOf, roomOf}
+use Rattle.heap.specs.Kinds.{contentOf, mapOf, roomOf}
 use Rattle.heap.specs.State.{State, modelOf, moreOf, withCells, withScalars}
 use Rattle.heap.specs.Good.{Good, SlotGood}
 use Rattle.heap.specs.Promise.{Performs}
@@ -91,10 +92,11 @@ pub record Means (h : Header) (region : List ℕ) (x : Scalars) (c : Content) (s
   pub content : contentOf (newRaw 65536 h region) x ≡ c
   pub room : roomOf (newRaw 65536 h region) ≡ s
 
--- a slot of any row but map and iterator
-pub new-good : (h : Header) (region : List ℕ) (x : Scalars) → 1 ≤ h .kind → h .kind ≤ 11 → (h .kind ≡ 7 → ⊥) → (h .kind ≡ 10 → ⊥) → (h .kind ≡ 1 → h .size ≡ stringCells (h .len)) →
-    (2 ≤ h .kind → h .kind ≤ 5 → h .size ≡ 0) → (6 ≤ h .kind → h .kind ≤ 9 → h .len ≡ h .size) → (h .kind ≡ 11 → h .size ≡ h .len + 4 * x .f) → SlotGood (newRaw 65536 h region) x
-new-good h region x lo hi no-map no-iterator string plain words coroutine = record {
+-- what a slot of each row has to meet
+pub new-good : (h : Header) (region : List ℕ) (x : Scalars) → 1 ≤ h .kind → h .kind ≤ 11 → (h .kind ≡ 1 → h .size ≡ stringCells (h .len)) → (2 ≤ h .kind → h .kind ≤ 5 → h .size ≡ 0) →
+    (6 ≤ h .kind → h .kind ≤ 9 → (h .kind ≡ 7 → ⊥) → h .len ≡ h .size) → (h .kind ≡ 7 → Map.Good (mapOf (newRaw 65536 h region) x) region × (h .size ≡ h .value * 5 + h .mode / 2) × (x .g < 4294967296)) →
+    (h .kind ≡ 10 → (h .size ≡ 0) × (x .g < 4294967296)) → (h .kind ≡ 11 → h .size ≡ h .len + 4 * x .f) → SlotGood (newRaw 65536 h region) x
+new-good h region x lo hi string plain words map iterator coroutine = record {
   half-low = omega arith;
   half-high = omega arith;
   kind = hi;
@@ -104,11 +106,11 @@ new-good h region x lo hi no-map no-iterator string plain words coroutine = reco
   cell = λ e. plain (omega (arith, e)) (omega (arith, e));
   error = λ e. plain (omega (arith, e)) (omega (arith, e));
   box = λ e. plain (omega (arith, e)) (omega (arith, e));
-  array = λ e. omega (arith, words (omega (arith, e)) (omega (arith, e)));
-  map = λ e. absurd (no-map e);
-  struct = λ e. words (omega (arith, e)) (omega (arith, e));
-  function = λ e. words (omega (arith, e)) (omega (arith, e));
-  iterator = λ e. absurd (no-iterator e);
+  array = λ e. omega (arith, words (omega (arith, e)) (omega (arith, e)) (λ z. absurd (omega (arith, e, z))));
+  map = map;
+  struct = λ e. words (omega (arith, e)) (omega (arith, e)) (λ z. absurd (omega (arith, e, z)));
+  function = λ e. words (omega (arith, e)) (omega (arith, e)) (λ z. absurd (omega (arith, e, z)));
+  iterator = iterator;
   coroutine = coroutine;
 }
 
@@ -208,6 +210,12 @@ module _ {t m : State} {h : Header} {bytes : ℕ} where
 
     pub plain-performs : Performs k t (madeIs r) a
     plain-performs = performs-by (judgedIn t bytes 0) refl
+
+-- an object without cells that has scalars
+pub scalars-performs : {t a : State} {h : Header} {bytes : ℕ} {r : Reading} {k : Call} {c : Content} {s : Room} (x : Scalars) → Good t → Makes t k c s → bytes ≡ saturated (weightOf t c s) → cellsOf c s ≡ 0 →
+    Means (withRegion h 0 0 0) [] x c s → MadePlain t (withNext t x) h bytes r a → Performs k t (madeIs r) a
+scalars-performs x g w bytes-are none p d =
+    plain-performs g w bytes-are none (λ e. ready-scalars (ready-self g e) x) (λ e. rw (next-more (ready-self g e .placeable) x) p) d
 
 -- ---- prepared
 

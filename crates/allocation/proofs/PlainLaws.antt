@@ -45,7 +45,7 @@ module _ {t a : State} {h : Header} {r : Reading} (g : Good t) where
   four {c = c} kind value mode w lo hi h-is content bytes cells d =
       let d′ : MadePlain t t (headerOf kind value mode 0 0) (t .heap .weights .slot) r a = rw h-is at d in
       plain-performs g w (rw bytes (slot-weight g)) cells (λ e. ready-self g e)
-      (λ e. record { some-kind = λ z. absurd (omega (arith, z)); fit = new-good (headerOf kind value mode 0 0) [] _ (omega arith) (omega arith) (λ z. absurd (omega (arith, z))) (λ z. absurd (omega (arith, z))) (λ z. absurd (omega (arith, z))) (λ l z. refl) (λ l z. absurd (omega (arith, l))) (λ z. absurd (omega (arith, z))); content = content _; room = room-none _ (λ z. absurd (omega (arith, z))) (λ z. absurd (omega (arith, z))) })
+      (λ e. record { some-kind = λ z. absurd (omega (arith, z)); fit = new-good (headerOf kind value mode 0 0) [] _ (omega arith) (omega arith) (λ z. absurd (omega (arith, z))) (λ l z. refl) (λ l z ne. absurd (omega (arith, l))) (λ z. absurd (omega (arith, z))) (λ z. absurd (omega (arith, z))) (λ z. absurd (omega (arith, z))); content = content _; room = room-none _ (λ z. absurd (omega (arith, z))) (λ z. absurd (omega (arith, z))) })
       d′
 
   pub integer-made : {z : ℤ} {v : ℕ} → SFits w64 z → v ≡ bits64 z → h ≡ headerOf 2 v 0 0 0 → MadePlain t t h (t .heap .weights .slot) r a → Performs (Calls.new-integer z) t (madeIs r) a

@@ -79,7 +79,7 @@ words-mean : (kind value mode n : ℕ) (ws : List ℕ) {c : Content} {s : Room} 
     roomOf (newRaw 65536 (headerOf kind value mode n n) ws) ≡ s → Means (headerOf kind value mode n n) ws x c s
 words-mean kind value mode n ws x lo hi no-map content room = record {
   some-kind = λ z. absurd (omega (arith, z));
-  fit = new-good (headerOf kind value mode n n) ws x (omega arith) (omega arith) no-map (λ z. absurd (omega (arith, z))) (λ z. absurd (omega (arith, z))) (λ l z. absurd (omega (arith, z))) (λ l z. refl) (λ z. absurd (omega (arith, z)));
+  fit = new-good (headerOf kind value mode n n) ws x (omega arith) (omega arith) (λ z. absurd (omega (arith, z))) (λ l z. absurd (omega (arith, z))) (λ l z ne. refl) (λ z. absurd (no-map z)) (λ z. absurd (omega (arith, z))) (λ z. absurd (omega (arith, z)));
   content = content;
   room = room;
 }
@@ -171,7 +171,7 @@ module _ {t m : State} {bs : List ℕ} {bytes size : ℕ} {d : Done} (g : Good t
       region-made g string-makes bytes-are h (ready-cells (p .accepted f) (above-written w))
       record {
         some-kind = λ z. absurd (omega (arith, z));
-        fit = new-good h region x (omega arith) (omega arith) (λ z. absurd (omega (arith, z))) (λ z. absurd (omega (arith, z))) (λ z. size-is) (λ l z. absurd (omega (arith, l))) (λ l z. absurd (omega (arith, l))) (λ z. absurd (omega (arith, z)));
+        fit = new-good h region x (omega arith) (omega arith) (λ z. size-is) (λ l z. absurd (omega (arith, l))) (λ l z ne. absurd (omega (arith, l))) (λ z. absurd (omega (arith, z))) (λ z. absurd (omega (arith, z))) (λ z. absurd (omega (arith, z)));
         content = content;
         room = room-none (newRaw 65536 h region) (λ z. absurd (omega (arith, z))) (λ z. absurd (omega (arith, z)));
       }

@@ -494,10 +494,10 @@ pub struct Coroutine {
 
 // A coroutine made but for its frames: `count` of them go into the cells from `at` on, none where
 // the call is refused.
-pub struct Begun {
-    pub made: Made,
-    pub at: usize,
-    pub count: usize,
+struct Begun {
+    made: Made,
+    at: usize,
+    count: usize,
 }
 
 fn coroutine_bytes(weights: Weights, registers: u64, frames: u64) -> u64
