@@ -32,10 +32,10 @@ use Rattle.heap.specs.State.{State, modelOf, moreOf, rawOf, withSlots}
 use Rattle.heap.specs.Good.{Good, SlotGood}
 use Rattle.heap.specs.Promise.{Performs}
 use Rattle.heap.proofs.DoesLaws.{does-5, does-own, first-none, first-passes, first-refuses}
-use Rattle.heap.proofs.KindLaws.{content-array, room-array, says-array}
+use Rattle.heap.proofs.KindLaws.{content-array, rawWords, room-array, says-array}
 use Rattle.heap.proofs.ReachLaws.{Target, located-at, target-met}
 use Rattle.heap.proofs.ReadLaws.{object-refused, reads-array, reads-items}
-use Rattle.heap.proofs.StepLaws.{own-len, raw-words, rawWords, touched-words}
+use Rattle.heap.proofs.StepLaws.{own-len, raw-words, touched-words}
 use Rattle.heap.proofs.StoreLaws.{Stored, does-stored-charged}
 use Rattle.heap.proofs.TouchLaws.{touched-none}
 use Rattle.collections.specs.Words.{ItemIs}

@@ -30,9 +30,9 @@ use Rattle.heap.specs.Locating.{Locates}
 use Rattle.heap.specs.State.{State, moreOf, rawOf, withCells}
 use Rattle.heap.specs.Good.{Good, SlotGood}
 use Rattle.heap.specs.Promise.{Performs}
-use Rattle.heap.proofs.KindLaws.{content-map, room-map, says-map}
+use Rattle.heap.proofs.KindLaws.{content-map, rawCells, rawWords, room-map, says-map}
 use Rattle.heap.proofs.ReadLaws.{object-passes, object-refused}
-use Rattle.heap.proofs.StepLaws.{OwnCells, raw-cells, raw-words, rawCells, rawWords, touched-cells, touched-scalars, touched-words}
+use Rattle.heap.proofs.StepLaws.{OwnCells, raw-cells, raw-words, touched-cells, touched-scalars, touched-words}
 use Rattle.heap.proofs.StoreLaws.{Stored, does-stored-free}
 use Rattle.heap.proofs.TouchLaws.{Touched, touched-none}
 use Rattle.collections.specs.Words.{MapWritten, flagOf, mapFrom, mapScalars}

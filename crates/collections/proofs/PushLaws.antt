@@ -39,10 +39,10 @@ use Rattle.heap.specs.State.{State, modelOf, moreOf, rawOf, state, withRegions}
 use Rattle.heap.specs.Good.{Good}
 use Rattle.heap.specs.Promise.{Performs}
 use Rattle.heap.proofs.DoesLaws.{does-5, does-7}
-use Rattle.heap.proofs.KindLaws.{content-array, room-array, says-array}
+use Rattle.heap.proofs.KindLaws.{content-array, rawCells, rawWords, room-array, says-array}
 use Rattle.heap.proofs.ReachLaws.{reached-room}
 use Rattle.heap.proofs.ReadLaws.{object-passes, object-refused}
-use Rattle.heap.proofs.StepLaws.{own-cell, own-len, raw-cell, raw-words, rawCells, rawWords, touched-cells, touched-words}
+use Rattle.heap.proofs.StepLaws.{own-cell, own-len, raw-cell, raw-words, touched-cells, touched-words}
 use Rattle.heap.proofs.StoreLaws.{Stored, added-change, does-stored-charged}
 use Rattle.collections.specs.Words.{ItemIs}
 use Rattle.collections.specs.Growth.{Appended, Appending, Lengthened, Lengthening}

@@ -254,7 +254,7 @@ good-account g a = record {
 charged-refused : {a : Account} → C.Next a ≡ C.Refused → ⊥
 charged-refused e = let z : _≡_ {A = ℕ} 0 1 = cc in absurd (omega arith)
 
-charge-so : (a : Account) (n : ℕ) {x : Account} → chargeOf a n ≡ C.Next x → (fits a n ≡ true) × (x ≡ charged a n)
+pub charge-so : (a : Account) (n : ℕ) {x : Account} → chargeOf a n ≡ C.Next x → (fits a n ≡ true) × (x ≡ charged a n)
 unfolding chargeOf
 charge-so a n {x} e = go (fits a n) refl e
   where
@@ -262,7 +262,7 @@ charge-so a n {x} e = go (fits a n) refl e
     go true f y = (f, (cc))
     go false f y = absurd (charged-refused (sym y))
 
-charge-not : (a : Account) (n : ℕ) → chargeOf a n ≡ C.Refused → fits a n ≡ false
+pub charge-not : (a : Account) (n : ℕ) → chargeOf a n ≡ C.Refused → fits a n ≡ false
 unfolding chargeOf
 charge-not a n e = go (fits a n) refl e
   where

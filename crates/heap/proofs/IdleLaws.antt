@@ -1,11 +1,10 @@
 -- What means nothing may change: the place of a region, cells at the top and above it, the scalars of a slot without an object. Assumes nothing.
 use Prim.Native.Nat.{ℕ, _*_, _-_, _<_}
 use mathlib.Core.Path.{_≡_, refl, ap, sym, _∙_, fun-ext}
-use mathlib.Core.Bool.{cond}
 use mathlib.Core.List.{List}
 use native.Mathlib.Omega.{arith}
-use lib.Dec.{eqb}
 use lib.ListN.{length, getD}
+use Rattle.account.specs.declared.Account.{Account}
 use Rattle.slots.specs.Header.{headerAt}
 use Rattle.slots.specs.FreeList.{takenSlot}
 use Rattle.slots.specs.declared.Scalars.{Scalars}
@@ -22,11 +21,12 @@ use Rattle.model.specs.Model.{Model}
 use Rattle.model.specs.Step.{step}
 use Rattle.heap.specs.declared.Heap.{Heap}
 use Rattle.heap.specs.State.{State, modelOf, moreOf, rawOf, slotFrom, slotOf, withCells, withRegions, withScalars}
-use Rattle.heap.specs.Good.{Good, SlotGood, filled}
+use Rattle.heap.specs.Good.{Good, SlotGood}
 use Rattle.heap.specs.Promise.{Does}
 use Rattle.heap.specs.Placing.{Roomy, nextSlot}
 use Rattle.heap.proofs.KindLaws.{object-none}
 use Rattle.heap.proofs.SlotLaws.{slot-unused, slot-used}
+use Rattle.heap.proofs.TouchLaws.{good-again}
 use Rattle.heap.proofs.StepLaws.{OwnScalars}
 
 -- from the state b to the state a every object is what it was
@@ -71,38 +71,20 @@ module _ {b a : State} (g : Good b) (c : Alike b a) where
   pub alike-good : Good a
   unfolding rawAt
   alike-good =
-      let h = c .heap in
-      let size : a .heap .size ≡ b .heap .size = ap (λ (x : Heap). x .size) h in
-      let fresh : a .heap .fresh ≡ b .heap .fresh = ap (λ (x : Heap). x .fresh) h in
-      let free : a .heap .free ≡ b .heap .free = ap (λ (x : Heap). x .free) h in
-      let there : a .heap .present ≡ b .heap .present = ap (λ (x : Heap). x .present) h in
-      let used : a .heap .taken ≡ b .heap .taken = ap (λ (x : Heap). x .taken) h in
-      let kind : (j : ℕ) → j < b .heap .fresh → headerAt (a .slots) j .kind ≡ headerAt (b .slots) j .kind = λ j l. ap (λ (r : Raw). r .kind) (c .raw j l) in
-      let half : (j : ℕ) → j < b .heap .fresh → headerAt (a .slots) j .half ≡ headerAt (b .slots) j .half = λ j l. ap (λ (r : Raw). r .half) (c .raw j l) in
-      record {
-        some-slot = omega (arith, g .some-slot);
-        slots-max = omega (arith, g .slots-max);
-        slots-fit = omega (arith, g .slots-fit, c .slots-length);
-        scalars-fit = omega (arith, g .scalars-fit, c .scalars-length);
-        list-fit = rw (c .list) (omega (arith, g .list-fit));
-        directory-fit = omega (arith, g .directory-fit, c .directory-length);
-        weights = rw (ap (λ (x : Heap). x .weights) h) (g .weights);
-        fresh = omega (arith, g .fresh);
-        each = λ j l. alike-slot j (omega arith);
-        laid = rw fresh (c .laid);
-        taken = used ∙ g .taken ∙ rw fresh (sym (sum-ext (λ j. headerAt (b .slots) j .size) (λ j. headerAt (a .slots) j .size) (b .heap .fresh) (λ j l. ap (λ (r : Raw). r .size) (c .raw j l))));
-        cells-fit = omega (arith, g .cells-fit, c .cells-length);
-        listed =
-            rw (fresh, free, c .list)
-            record {
-              inside = g .listed .inside;
-              empty = λ k l. kind (getD (b .list) k 0) (g .listed .inside k l) ∙ g .listed .empty k l;
-              low = λ k l. omega (arith, half (getD (b .list) k 0) (g .listed .inside k l), g .listed .low k l);
-              high = λ k l. omega (arith, half (getD (b .list) k 0) (g .listed .inside k l), g .listed .high k l);
-              once = g .listed .once;
-            };
-        present = rw (fresh, there) (g .present ∙ sym (sum-ext (filled b) (filled a) (b .heap .fresh) (λ j l. ap (λ (k : ℕ). cond (eqb k 0) 0 1) (kind j l))));
-        room = omega (arith, g .room);
+      let used : a .heap .taken ≡ b .heap .taken = ap (λ (x : Heap). x .taken) (c .heap) in
+      good-again g record {
+        heap = c .heap ∙ ap (λ (n : ℕ). withRegions (b .heap) (b .heap .account) (a .heap .top) (a .heap .entries) n) (sym used) ∙ ap (λ (n : Account). withRegions (b .heap) n (a .heap .top) (a .heap .entries) (a .heap .taken)) (sym (ap (λ (x : Heap). x .account) (c .heap)));
+        list = c .list;
+        slots-length = c .slots-length;
+        scalars-length = c .scalars-length;
+        directory-length = c .directory-length;
+        cells-length = c .cells-length;
+        each = alike-slot;
+        kind = λ j l. ap (λ (r : Raw). r .kind) (c .raw j l);
+        half = λ j l. ap (λ (r : Raw). r .half) (c .raw j l);
+        laid = c .laid;
+        taken = used ∙ g .taken ∙ sym (sum-ext (λ j. headerAt (b .slots) j .size) (λ j. headerAt (a .slots) j .size) (b .heap .fresh) (λ j l. ap (λ (r : Raw). r .size) (c .raw j l)));
+        cells-fit = omega (arith, g .cells-fit);
       }
 
   slot-alike : (j : ℕ) → slotOf a j ≡ slotOf b j

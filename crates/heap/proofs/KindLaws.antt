@@ -45,6 +45,16 @@ by-row P a b c d e f g h i j l (suc (suc (suc (suc (suc (suc (suc (suc (suc (suc
 abbrev pub ofKind : Raw → ℕ → Raw
 ofKind r k = record { half = r .half; kind = k; value = r .value; mode = r .mode; len = r .len; size = r .size; cells = r .cells }
 
+-- with other words of the kind's own, other cells, a larger region
+abbrev pub rawWords : Raw → ℕ → ℕ → ℕ → Raw
+rawWords r value mode len = record { half = r .half; kind = r .kind; value = value; mode = mode; len = len; size = r .size; cells = r .cells }
+
+abbrev pub rawCells : Raw → List ℕ → Raw
+rawCells r c = record { half = r .half; kind = r .kind; value = r .value; mode = r .mode; len = r .len; size = r .size; cells = c }
+
+abbrev pub rawGrown : Raw → ℕ → List ℕ → Raw
+rawGrown r size c = record { half = r .half; kind = r .kind; value = r .value; mode = r .mode; len = r .len; size = size; cells = c }
+
 -- ---- contents by kind
 
 module _ (r : Raw) (x : Scalars) where

@@ -1,4 +1,5 @@
 pub mod KindLaws
+pub mod GoodLaws
 pub mod SlotLaws
 pub mod ReachLaws
 pub mod DoesLaws
@@ -10,3 +11,6 @@ pub mod PlaceLaws
 pub mod IdleLaws
 pub mod LocateLaws
 pub mod CallLaws
+pub mod SeatLaws
+pub mod OpenLaws
+pub mod SweepLaws

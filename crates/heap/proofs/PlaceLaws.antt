@@ -70,7 +70,7 @@ placedAt t h start entry bytes top entries dir = record {
   cells = t .cells;
 }
 
-flag-max : (kind : ℕ) → flagOf kind ≤ 32768
+pub flag-max : (kind : ℕ) → flagOf kind ≤ 32768
 flag-max kind = go (eqb kind 5)
   where
     go : (b : Bool) → cond b 32768 0 ≤ 32768
@@ -390,15 +390,16 @@ module _ {t : State} (g : Good t) (h : Header) (bytes : ℕ) (some-kind : h .kin
 
   module _ (l : Layout) (k : Call) {n : ℕ} {x : Lent} (charge-is : (terms (modelOf l t) k) .charge ≡ some n) (bytes-are : bytes ≡ saturated n) (own : first ((terms (modelOf l t) k) .refusals) ≡ 0)
       (lent-is : (terms (modelOf l t) k) .lent-after ≡ x) where
-    pub does-plain : Judged t bytes 0 → SlotGood (newRaw 65536 (withRegion h 0 0 0) []) (moreOf t (nextSlot t)) →
-        effect (viewOf (modelOf l t)) k ≡ add (contentOf (newRaw 65536 (withRegion h 0 0 0) []) (moreOf t (nextSlot t))) (roomOf (newRaw 65536 (withRegion h 0 0 0) [])) →
+    pub does-plain : {c : Content} {s : Room} → Judged t bytes 0 → SlotGood (newRaw 65536 (withRegion h 0 0 0) []) (moreOf t (nextSlot t)) → effect (viewOf (modelOf l t)) k ≡ add c s →
+        contentOf (newRaw 65536 (withRegion h 0 0 0) []) (moreOf t (nextSlot t)) ≡ c → roomOf (newRaw 65536 (withRegion h 0 0 0) []) ≡ s →
         Does l k t record { refusal = 0; answer = reference-made (newWord t (h .kind)); lent = x } (placedPlain t h bytes)
-    does-plain j fit effect-is =
-        does-placed g (withRegion h 0 0 0) 0 0 bytes (t .heap .top) (t .heap .entries) (t .directory) some-kind (j .left) fit (plain-laid (j .left)) refl (j .room) l k effect-is charge-is bytes-are (j .in-budget) own lent-is
+    does-plain j fit effect-is content-is room-is =
+        does-placed g (withRegion h 0 0 0) 0 0 bytes (t .heap .top) (t .heap .entries) (t .directory) some-kind (j .left) fit (plain-laid (j .left)) refl (j .room) l k (rw (effect-is, content-is, room-is)) charge-is bytes-are
+        (j .in-budget) own lent-is
 
-    pub does-region : Judged t bytes (h .size) → t .heap .top + h .size ≤ length (t .cells) → t .heap .entries < t .heap .size * 2 → SlotGood (newRaw 65536 h (nextRegion t (h .size))) (moreOf t (nextSlot t)) →
-        effect (viewOf (modelOf l t)) k ≡ add (contentOf (newRaw 65536 h (nextRegion t (h .size))) (moreOf t (nextSlot t))) (roomOf (newRaw 65536 h (nextRegion t (h .size)))) →
-        Does l k t record { refusal = 0; answer = reference-made (newWord t (h .kind)); lent = x } (placedRegion t h bytes)
-    does-region j top entry fit effect-is =
+    pub does-region : {c : Content} {s : Room} → Judged t bytes (h .size) → t .heap .top + h .size ≤ length (t .cells) → t .heap .entries < t .heap .size * 2 →
+        SlotGood (newRaw 65536 h (nextRegion t (h .size))) (moreOf t (nextSlot t)) → effect (viewOf (modelOf l t)) k ≡ add c s → contentOf (newRaw 65536 h (nextRegion t (h .size))) (moreOf t (nextSlot t)) ≡ c →
+        roomOf (newRaw 65536 h (nextRegion t (h .size))) ≡ s → Does l k t record { refusal = 0; answer = reference-made (newWord t (h .kind)); lent = x } (placedRegion t h bytes)
+    does-region j top entry fit effect-is content-is room-is =
         does-placed g h (t .heap .top) (t .heap .entries) bytes (t .heap .top + h .size) (t .heap .entries + 1) (set (t .directory) (t .heap .entries) (nextSlot t)) some-kind (j .left) fit (region-laid (j .left) top entry)
-        (length-set (t .directory) (t .heap .entries) (nextSlot t)) (j .room) l k effect-is charge-is bytes-are (j .in-budget) own lent-is
+        (length-set (t .directory) (t .heap .entries) (nextSlot t)) (j .room) l k (rw (effect-is, content-is, room-is)) charge-is bytes-are (j .in-budget) own lent-is

@@ -4,7 +4,7 @@ use mathlib.Core.Path.{_≡_, refl, ap, sym, _∙_}
 use mathlib.Core.Bool.{Bool, true, false, cond, _&&_, Bool·beq}
 use mathlib.Core.Option.{none, some}
 use native.Mathlib.Omega.{arith}
-use borrow.Author.Tests.{eqb-true, leb-false, leb-true}
+use borrow.Author.Tests.{eqb-false, eqb-true, leb-false, leb-true}
 use lib.Dec.{eqb, leb}
 use lib.ListN.{length}
 use Rattle.words.specs.Word.{decodeWord, refSlot, refTag}
@@ -230,3 +230,7 @@ scalars-fit g h = (omega (arith, h .within, g .fresh, g .slots-max), omega (arit
 
 pub located-fits : {t : State} {w kind i : ℕ} {r : Located} → Good t → Locates (t .slots) (t .heap .fresh) w kind r → r ≡ At i → (i < 65536) × (i * 8 + 8 ≤ length (t .slots))
 located-fits g d e = slot-fits g (located-at g d e .reached)
+
+-- it is of no other kind
+pub other-kind : {t : State} {w i kind : ℕ} → Target t w i kind → (n : ℕ) → eqb kind n ≡ false → rawOf t i .kind ≡ n → ⊥
+other-kind {kind = kind} o n e z = eqb-false kind n e (sym (o .kind-is) ∙ z)

@@ -12,7 +12,7 @@ use Rattle.slots.specs.declared.Header.{Header}
 use Rattle.slots.specs.declared.Scalars.{Scalars}
 use Rattle.slots.proofs.Cases.{by-cases, same-or-not}
 use Rattle.slots.proofs.HeaderLaws.{headerAt-other, headerAt-same, length-setHeader, length-setScalars, scalarsAt-other, scalarsAt-same, store-len, store-mode, store-other, store-scalar, store-scalar-other, store-value}
-use Rattle.cells.specs.Regions.{Grown, Raw, rawAt, regionOf}
+use Rattle.cells.specs.Regions.{Grown, rawAt, regionOf}
 use Rattle.cells.specs.Regions as Regions
 use Rattle.cells.specs.declared.Top.{Top}
 use Rattle.cells.proofs.RawLaws.{laid-cells, raw-region}
@@ -20,19 +20,14 @@ use Rattle.cells.proofs.RawLaws as Cells
 use Rattle.cells.proofs.LaidLaws.{laid-regions}
 use Rattle.heap.specs.declared.Heap.{Heap}
 use Rattle.heap.specs.State.{State, rawOf, withCells, withHeap, withRegions, withScalars, withSlots}
+use Rattle.heap.proofs.KindLaws.{rawCells, rawGrown, rawWords}
 use Rattle.heap.proofs.TouchLaws.{Touched}
 
 -- ---- what is written
 
--- a header and a slot with other words of the kind's own
+-- a header with other words of the kind's own
 abbrev pub ownWords : Header → ℕ → ℕ → ℕ → Header
 ownWords h value mode len = record { half = h .half; kind = h .kind; value = value; mode = mode; len = len; size = h .size; start = h .start; entry = h .entry }
-
-abbrev pub rawWords : Raw → ℕ → ℕ → ℕ → Raw
-rawWords r value mode len = record { half = r .half; kind = r .kind; value = value; mode = mode; len = len; size = r .size; cells = r .cells }
-
-abbrev pub rawCells : Raw → List ℕ → Raw
-rawCells r c = record { half = r .half; kind = r .kind; value = r .value; mode = r .mode; len = r .len; size = r .size; cells = c }
 
 -- the kind's own words of slot i's header
 pub record OwnWords (s s′ : List ℕ) (i value mode len : ℕ) : Type 0 where
@@ -193,10 +188,6 @@ module _ {b m : State} {i : ℕ} (c : Touched b m i) where
     taken = let z : headerAt s′ i .size ≡ size = ap (λ (h : Header). h .size) (w .header) in omega (arith, c .taken, e);
     cells-fit = fits;
   }
-
--- slot i with the grown region
-abbrev pub rawGrown : Raw → ℕ → List ℕ → Raw
-rawGrown r size c = record { half = r .half; kind = r .kind; value = r .value; mode = r .mode; len = r .len; size = size; cells = c }
 
 pub raw-grown : {n i size : ℕ} {t : Top} {s dir c s′ dir′ c′ : List ℕ} → Grown n i size t s dir c s′ dir′ c′ → rawAt s′ c′ i ≡ rawGrown (rawAt s c i) size (regionOf (headerAt s′ i) c′)
 unfolding rawAt

@@ -6,6 +6,8 @@ use mathlib.Core.Option.{Option, none, some}
 use native.Mathlib.Omega.{arith}
 use Rattle.account.specs.Account.{charged, fits}
 use Rattle.slots.proofs.Cases.{by-cases, same-or-not}
+use Rattle.slots.specs.declared.Scalars.{Scalars}
+use Rattle.cells.specs.Regions.{Raw}
 use Rattle.history.proofs.Judging.{fits-so, no-cells-added, says-none}
 use Rattle.history.proofs.Lift.{seen, step-stores}
 use Rattle.layout.specs.Layout.{Layout}
@@ -33,6 +35,11 @@ pub record Stored (b a : State) (i : ℕ) (p : Content → Content) (q : Content
   pub slot-good : SlotGood (rawOf a i) (moreOf a i)
   pub content : contentOf (rawOf a i) (moreOf a i) ≡ p (contentOf (rawOf b i) (moreOf b i))
   pub room : roomOf (rawOf a i) ≡ q (contentOf (rawOf b i) (moreOf b i)) (roomOf (rawOf b i))
+
+-- from what slot i holds after it
+pub stored : {b a : State} {i : ℕ} {p : Content → Content} {q : Content → Room → Room} {r : Raw} {x : Scalars} → Touched b a i → rawOf a i ≡ r → moreOf a i ≡ x → SlotGood r x →
+    contentOf r x ≡ p (contentOf (rawOf b i) (moreOf b i)) → roomOf r ≡ q (contentOf (rawOf b i) (moreOf b i)) (roomOf (rawOf b i)) → Stored b a i p q
+stored c er ex g h k = record { touched = c; slot-good = rw (er, ex) g; content = rw (er, ex) h; room = rw er k }
 
 -- the cells that a change adds
 pub added-change : (l : Layout) {t : State} {w i : ℕ} → Good t → Reached t w i → (p : Content → Content) (q : Content → Room → Room) →
@@ -63,7 +70,7 @@ module _ (l : Layout) {b a : State} {w i : ℕ} {p : Content → Content} {q : C
       record {
         shows = rw (t, x, r);
         next = touched-model o (s .touched) p q (s .content) (s .room) l ∙ rw (t, account, c);
-        good = touched-good g (o .within) (o .present) (s .touched) (s .slot-good);
+        good = touched-good g (o .within) (s .touched) (s .slot-good);
         kept = λ z. absurd (z refl);
       }
 

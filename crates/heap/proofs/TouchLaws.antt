@@ -2,7 +2,6 @@
 use Prim.Native.Nat.{ℕ, _+_, _%_, _≤_, _<_}
 use mathlib.Core.Path.{_≡_, refl, ap, sym, _∙_, fun-ext}
 use mathlib.Core.Bool.{cond}
-use mathlib.Core.List.{List}
 use mathlib.Core.Option.{some}
 use native.Mathlib.Omega.{arith}
 use lib.Dec.{eqb, leb}
@@ -10,9 +9,8 @@ use lib.ListN.{length, getD}
 use Rattle.words.specs.Word.{refTag}
 use Rattle.account.specs.declared.Account.{Account}
 use Rattle.slots.specs.Header.{headerAt}
-use Rattle.slots.specs.FreeList.{Listed}
 use Rattle.slots.proofs.Cases.{by-cases, lt-or-le, same-or-not}
-use Rattle.cells.specs.Regions.{Laid, Raw, rawAt}
+use Rattle.cells.specs.Regions.{Laid, Raw, rawAt, sizesOf}
 use Rattle.cells.proofs.SumLaws.{sum-ext, sum-put}
 use Rattle.history.proofs.Facts.{eqb-no, eqb-self}
 use Rattle.history.proofs.Lift.{amended-hit}
@@ -29,6 +27,56 @@ use Rattle.heap.specs.Good.{Good, SlotGood, filled}
 use Rattle.heap.proofs.KindLaws.{object-some}
 use Rattle.heap.proofs.SlotLaws.{slot-unused, slot-used}
 use Rattle.heap.proofs.ReachLaws.{Reached, reached-boxed, reached-gen, reached-object, reached-ref}
+
+-- ---- the invariant again
+
+-- from the state b to the state a every slot keeps its tag and kind, and is good
+pub record Regained (b a : State) : Type 0 where
+  pub heap : a .heap ≡ withRegions (b .heap) (a .heap .account) (a .heap .top) (a .heap .entries) (a .heap .taken)
+  pub list : a .list ≡ b .list
+  pub slots-length : length (a .slots) ≡ length (b .slots)
+  pub scalars-length : length (a .scalars) ≡ length (b .scalars)
+  pub directory-length : length (a .directory) ≡ length (b .directory)
+  pub cells-length : length (a .cells) ≡ length (b .cells)
+  pub each : (j : ℕ) → j < b .heap .fresh → SlotGood (rawOf a j) (moreOf a j)
+  pub kind : (j : ℕ) → j < b .heap .fresh → headerAt (a .slots) j .kind ≡ headerAt (b .slots) j .kind
+  pub half : (j : ℕ) → j < b .heap .fresh → headerAt (a .slots) j .half ≡ headerAt (b .slots) j .half
+  pub laid : Laid (b .heap .fresh) (a .heap .top) (a .heap .entries) (a .slots) (a .directory) (a .cells)
+  pub taken : a .heap .taken ≡ sizesOf (a .slots) (b .heap .fresh)
+  pub cells-fit : a .heap .taken ≤ length (b .cells)
+
+pub good-again : {b a : State} → Good b → Regained b a → Good a
+good-again {b} {a} g c =
+    let h = c .heap in
+    let size : a .heap .size ≡ b .heap .size = ap (λ (x : Heap). x .size) h in
+    let fresh : a .heap .fresh ≡ b .heap .fresh = ap (λ (x : Heap). x .fresh) h in
+    let free : a .heap .free ≡ b .heap .free = ap (λ (x : Heap). x .free) h in
+    let there : a .heap .present ≡ b .heap .present = ap (λ (x : Heap). x .present) h in
+    record {
+      some-slot = omega (arith, g .some-slot);
+      slots-max = omega (arith, g .slots-max);
+      slots-fit = omega (arith, g .slots-fit, c .slots-length);
+      scalars-fit = omega (arith, g .scalars-fit, c .scalars-length);
+      list-fit = rw (c .list) (omega (arith, g .list-fit));
+      directory-fit = omega (arith, g .directory-fit, c .directory-length);
+      weights = rw (ap (λ (x : Heap). x .weights) h) (g .weights);
+      fresh = omega (arith, g .fresh);
+      each = λ j l. c .each j (omega arith);
+      laid = rw fresh (c .laid);
+      taken = rw fresh (c .taken);
+      cells-fit = omega (arith, c .cells-fit, c .cells-length);
+      listed =
+          rw (fresh, free, c .list)
+          record {
+            inside = g .listed .inside;
+            empty = λ k l. c .kind (getD (b .list) k 0) (g .listed .inside k l) ∙ g .listed .empty k l;
+            low = λ k l. omega (arith, c .half (getD (b .list) k 0) (g .listed .inside k l), g .listed .low k l);
+            high = λ k l. omega (arith, c .half (getD (b .list) k 0) (g .listed .inside k l), g .listed .high k l);
+            once = g .listed .once;
+          };
+      present = rw (fresh, there) (g .present ∙ sym (sum-ext (filled b) (filled a) (b .heap .fresh) (λ j l. ap (λ (k : ℕ). cond (eqb k 0) 0 1) (c .kind j l))));
+      room = omega (arith, g .room);
+    }
 
 -- ---- the change of one slot
 
@@ -66,63 +114,35 @@ touched-none i g = record {
   cells-fit = g .cells-fit;
 }
 
--- slots that keep tag and kind stay listed
-pub listed-raw : {s list : List ℕ} {fresh free : ℕ} (s′ : List ℕ) (i : ℕ) → Listed s list fresh free → (headerAt s i .kind ≡ 0 → ⊥) →
-    ((j : ℕ) → j < fresh → (j ≡ i → ⊥) → (headerAt s′ j .kind ≡ headerAt s j .kind) × (headerAt s′ j .half ≡ headerAt s j .half)) → Listed s′ list fresh free
-listed-raw {s} {list} {fresh} {free} s′ i g p h =
-    let out : (k : ℕ) → k < free → getD list k 0 ≡ i → ⊥ = λ k lk e. p (rw (← e) (g .empty k lk)) in
-    record {
-      inside = g .inside;
-      empty = λ k lk. h (getD list k 0) (g .inside k lk) (out k lk) .0 ∙ g .empty k lk;
-      low = λ k lk. omega (arith, h (getD list k 0) (g .inside k lk) (out k lk) .1, g .low k lk);
-      high = λ k lk. omega (arith, h (getD list k 0) (g .inside k lk) (out k lk) .1, g .high k lk);
-      once = g .once;
-    }
-
-module _ {b a : State} {i : ℕ} (g : Good b) (within : i < b .heap .fresh) (present : rawOf b i .kind ≡ 0 → ⊥) (c : Touched b a i) (s : SlotGood (rawOf a i) (moreOf a i)) where
+module _ {b a : State} {i : ℕ} (g : Good b) (within : i < b .heap .fresh) (c : Touched b a i) (s : SlotGood (rawOf a i) (moreOf a i)) where
   each-slot : (j : ℕ) → j < b .heap .fresh → SlotGood (rawOf a j) (moreOf a j)
   each-slot j l =
       by-cases (same-or-not j i)
       (λ e. rw e s)
       (λ ne. rw (c .others j l ne, c .others-more j l ne) (g .each j l))
 
-  headers-kept : (j : ℕ) → j < b .heap .fresh → (j ≡ i → ⊥) → (headerAt (a .slots) j .kind ≡ headerAt (b .slots) j .kind) × (headerAt (a .slots) j .half ≡ headerAt (b .slots) j .half)
-  unfolding rawAt
-  headers-kept j l ne = (ap (λ (r : Raw). r .kind) (c .others j l ne), ap (λ (r : Raw). r .half) (c .others j l ne))
-
   pub touched-good : Good a
   unfolding rawAt
-  touched-good =
-      let h = c .heap in
-      let size : a .heap .size ≡ b .heap .size = ap (λ (x : Heap). x .size) h in
-      let fresh : a .heap .fresh ≡ b .heap .fresh = ap (λ (x : Heap). x .fresh) h in
-      let free : a .heap .free ≡ b .heap .free = ap (λ (x : Heap). x .free) h in
-      let there : a .heap .present ≡ b .heap .present = ap (λ (x : Heap). x .present) h in
-      let kinds : (j : ℕ) → j < b .heap .fresh → headerAt (a .slots) j .kind ≡ headerAt (b .slots) j .kind = λ j l. by-cases (same-or-not j i) (λ e. rw e (c .kind)) (λ ne. headers-kept j l ne .0) in
-      record {
-        some-slot = omega (arith, g .some-slot);
-        slots-max = omega (arith, g .slots-max);
-        slots-fit = omega (arith, g .slots-fit, c .slots-length);
-        scalars-fit = omega (arith, g .scalars-fit, c .scalars-length);
-        list-fit = rw (c .list) (omega (arith, g .list-fit));
-        directory-fit = omega (arith, g .directory-fit, c .directory-length);
-        weights = rw (ap (λ (x : Heap). x .weights) h) (g .weights);
-        fresh = omega (arith, g .fresh);
-        each = λ j l. each-slot j (omega arith);
-        laid = rw fresh (c .laid);
-        taken =
-            rw fresh
-            (omega (
-              arith,
-              c .taken,
-              g .taken,
-              sum-put (λ j. headerAt (b .slots) j .size) (λ j. headerAt (a .slots) j .size) (b .heap .fresh) i within (λ j l ne. ap (λ (r : Raw). r .size) (c .others j l ne)),
-            ));
-        cells-fit = omega (arith, c .cells-fit, c .cells-length);
-        listed = rw (fresh, free, c .list) (listed-raw (a .slots) i (g .listed) present headers-kept);
-        present = rw (fresh, there) (g .present ∙ sym (sum-ext (filled b) (filled a) (b .heap .fresh) (λ j l. ap (λ (k : ℕ). cond (eqb k 0) 0 1) (kinds j l))));
-        room = omega (arith, g .room);
-      }
+  touched-good = good-again g record {
+    heap = c .heap;
+    list = c .list;
+    slots-length = c .slots-length;
+    scalars-length = c .scalars-length;
+    directory-length = c .directory-length;
+    cells-length = c .cells-length;
+    each = each-slot;
+    kind = λ j l. by-cases (same-or-not j i) (λ e. rw e (c .kind)) (λ ne. ap (λ (r : Raw). r .kind) (c .others j l ne));
+    half = λ j l. by-cases (same-or-not j i) (λ e. rw e (c .half)) (λ ne. ap (λ (r : Raw). r .half) (c .others j l ne));
+    laid = c .laid;
+    taken =
+        omega (
+          arith,
+          c .taken,
+          g .taken,
+          sum-put (λ j. headerAt (b .slots) j .size) (λ j. headerAt (a .slots) j .size) (b .heap .fresh) i within (λ j l ne. ap (λ (r : Raw). r .size) (c .others j l ne)),
+        );
+    cells-fit = c .cells-fit;
+  }
 
 -- ---- the model after it
 

@@ -5,3 +5,4 @@ pub mod Good
 pub mod Promise
 pub mod Locating
 pub mod Placing
+pub mod Opens

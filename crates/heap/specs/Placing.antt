@@ -1,17 +1,19 @@
 -- A new object (document 01, "Slot and object"): whether it is refused, and where it goes.
 use Prim.Native.Nat.{ℕ, _+_, _-_, _*_, _≤_, _<_}
 use mathlib.Core.Path.{_≡_}
-use mathlib.Core.Bool.{cond, not, _||_}
+use mathlib.Core.Bool.{cond, not, true, _||_}
 use mathlib.Core.List.{List}
 use lib.Dec.{eqb, leb, ltb}
 use lib.ListN.{length, set, take, drop}
 use Rattle.account.specs.Account.{charged, fits}
-use Rattle.slots.specs.Header.{setHeader, withRegion}
-use Rattle.slots.specs.FreeList.{takenHalf, takenSlot}
+use Rattle.slots.specs.Header.{setHeader, withHalf, withRegion}
+use Rattle.slots.specs.FreeList.{Listed, takenHalf, takenSlot}
 use Rattle.slots.specs.declared.Header.{Header}
 use Rattle.cells.specs.Regions.{Raw}
 use Rattle.layout.specs.Layout.{Layout}
 use Rattle.heap.specs.declared.Heap.{Heap}
+use Rattle.heap.specs.declared.Made.{Made}
+use Rattle.heap.specs.declared.Reading.the-variants.{Is}
 use Rattle.heap.specs.declared.Done.{Done}
 use Rattle.heap.specs.declared.Done.the-variants.{Accepted, Refused}
 use Rattle.heap.specs.declared.Refusal.the-variants.{NoCells, NoSlot, OverBudget}
@@ -100,3 +102,21 @@ pub record Roomy (b a : State) (size : ℕ) : Type 0 where
   pub model : (l : Layout) → modelOf l a ≡ modelOf l b
   pub region : a .heap .top + size ≤ length (a .cells)
   pub entry : a .heap .entries < a .heap .size * 2
+
+-- what placing a header in the next slot needs
+pub record Seatable (h : Heap) (s list : List ℕ) (bytes size : ℕ) : Type 0 where
+  pub listed : Listed s list (h .fresh) (h .free)
+  pub slots-max : h .size ≤ 65536
+  pub slots-fit : h .size * 8 ≤ length s
+  pub list-fit : h .free ≤ length list
+  pub fresh : h .fresh ≤ h .size
+  pub left : h .free ≡ 0 → h .fresh < h .size
+  pub present : h .present ≤ 65536
+  pub cells-max : h .taken + size ≤ 1048576
+  pub in-budget : fits (h .account) bytes ≡ true
+
+-- the header is placed, and the record has one object more; its region is the caller's care
+pub record Seats (h : Heap) (s list : List ℕ) (hd : Header) (bytes : ℕ) (r : Made) (s′ : List ℕ) : Type 0 where
+  pub heap : r .heap ≡ grownHeap h bytes (hd .size) (h .top) (h .entries)
+  pub slots : s′ ≡ setHeader s (takenSlot list (h .fresh) (h .free)) (withHalf hd (takenHalf s list (h .free) + flagOf (hd .kind)))
+  pub answer : r .answer ≡ Is ((takenHalf s list (h .free) + flagOf (hd .kind)) * 4294967296 + takenSlot list (h .fresh) (h .free))

@@ -1,5 +1,6 @@
 // The heap: its record, its invariant, opening, the lookup of words, and the placing of new objects.
 ghost use mathlib.Core.Path.{_≡_};
+ghost use mathlib.Core.List.{[]};
 ghost use Prim.Native.Nat.{_+_, _*_, _≤_, _<_};
 ghost use lib.ListN.{length};
 ghost use Rattle.model.specs.Calls as Calls;
@@ -7,10 +8,18 @@ ghost use Rattle.model.specs.Replies.{nothing, number, truth};
 ghost use Rattle.heap.specs.Answers.{answered, doneIs, kindNumber};
 ghost use Rattle.heap.specs.State.{state};
 ghost use Rattle.heap.specs.Good.{Good};
+ghost use Rattle.slots.specs.FreeList.{takenSlot};
+ghost use Rattle.heap.specs.declared.Done.the-variants.{Accepted};
+ghost use Rattle.heap.specs.declared.Reading.the-variants.{Is};
+ghost use Rattle.heap.specs.Placing.{Roomy, Seatable, Seats, flagOf, judgedNew, newWord, placedPlain, placedRegion};
+ghost use Rattle.model.specs.Opening.{between, sizesFit};
+ghost use Rattle.heap.specs.Opens.{Opens, beside, cleared, newHeap, openingOf, roomFor, weightsFit};
 ghost use Rattle.heap.specs.Promise.{Performs, Reads};
 ghost use Rattle.heap.specs.Locating.{Locates, Ranks};
 use account::Account;
 use account::Charged;
+use cells::Top;
+use layout::Checked;
 use model::Weights;
 use slots::Found;
 use slots::Header;
@@ -82,6 +91,12 @@ pub struct Settled {
 pub struct Made {
     pub heap: Heap,
     pub answer: Reading,
+}
+
+// A heap opened, or 10.
+pub enum Opened {
+    Ready(Heap),
+    Refused(Refusal),
 }
 
 pub enum Kind {
@@ -363,4 +378,313 @@ pub fn cells_in_use(
     ensures { λ r. ⌜ Reads Calls.cells-in-use (state heap (now (slots .entry)) (now (scalars .entry)) (now (list .entry)) (now (directory .entry)) (now (cells .entry))) (answered (number r)) ⌝ }
 {
     heap.taken
+}
+
+// 5, 6, 7, in this order: a charge of `bytes`, and `size` more of the `total` cells.
+pub fn judge_new(heap: Heap, total: u64, bytes: u64, size: u64) -> Done
+    ensures { λ r. ⌜ r ≡ judgedNew heap total bytes size ⌝ }
+{
+    let account = heap.account;
+    if !account.allows(bytes) {
+        return Done::Refused(Refusal::OverBudget);
+    }
+    if heap.free == 0 {
+        if heap.size <= heap.fresh {
+            return Done::Refused(Refusal::NoSlot);
+        }
+    }
+    if total < heap.taken {
+        return Done::Refused(Refusal::NoCells);
+    }
+    if total - heap.taken < size {
+        return Done::Refused(Refusal::NoCells);
+    }
+    Done::Accepted
+}
+
+// The slot that the next object takes.
+pub fn next_slot(list: &[u64], fresh: u64, free: u64) -> u64
+    requires { ⌜ free ≤ length (now list) ⌝ }
+    ensures { λ r. ⌜ r ≡ takenSlot (now (list .entry)) fresh free ⌝ }
+{
+    if free == 0 {
+        return fresh;
+    }
+    let last = (free - 1) as usize;
+    list[last]
+}
+
+// The box flag stands in a box's reference only.
+fn flag_of(kind: u64) -> u64
+    ensures { λ r. ⌜ r ≡ flagOf kind ⌝ }
+{
+    if kind == BOX { 32768 } else { 0 }
+}
+
+// The header in the next slot, under the next object's tag.
+fn seat(heap: Heap, slots: &mut [u64], list: &[u64], header: Header, bytes: u64) -> Made
+    requires { ⌜ Seatable heap (now slots) (now list) bytes (header .size) ⌝ }
+    ensures { λ r. ⌜ Seats heap (now (slots .entry)) (now (list .entry)) header bytes r (now (slots .exit)) ⌝ }
+{
+    let account = heap.account;
+    let Charged::Next(next) = account.charge(bytes) else {
+        return Made {
+            heap,
+            answer: Reading::Refused(Refusal::OverBudget),
+        };
+    };
+    let t = slots::take_slot(slots, list, heap.fresh, heap.free, flag_of(header.kind));
+    let mut new = header;
+    new.half = t.half;
+    slots::write_header(slots, t.slot as usize, new);
+    let mut h = heap;
+    h.account = next;
+    h.fresh = t.fresh;
+    h.free = t.free;
+    h.taken = heap.taken + header.size;
+    h.present = heap.present + 1;
+    Made {
+        heap: h,
+        answer: Reading::Is(t.half * 4294967296 + t.slot),
+    }
+}
+
+// A new object without cells, once judged: kind, value, mode and len are the header's.
+pub fn place_plain(
+    heap: Heap,
+    slots: &mut [u64],
+    scalars: &[u64],
+    list: &[u64],
+    directory: &[u64],
+    cells: &[u64],
+    header: Header,
+    bytes: u64,
+) -> Made
+    requires { ⌜ Good (state heap (now slots) (now scalars) (now list) (now directory) (now cells)) × (judgedNew heap (length (now cells)) bytes 0 ≡ Accepted) ⌝ }
+    ensures { λ r. ⌜ (state (r .heap) (now (slots .exit)) (now (scalars .entry)) (now (list .entry)) (now (directory .entry)) (now (cells .entry)) ≡ placedPlain (state heap (now (slots .entry)) (now (scalars .entry)) (now (list .entry)) (now (directory .entry)) (now (cells .entry))) header bytes) × (r .answer ≡ Is (newWord (state heap (now (slots .entry)) (now (scalars .entry)) (now (list .entry)) (now (directory .entry)) (now (cells .entry))) (header .kind))) ⌝ }
+{
+    let mut new = header;
+    new.size = 0;
+    new.start = 0;
+    new.entry = 0;
+    seat(heap, slots, list, new, bytes)
+}
+
+// A new object whose region, `header.size` cells at the top, the caller has filled.
+pub fn place_region(
+    heap: Heap,
+    slots: &mut [u64],
+    scalars: &[u64],
+    list: &[u64],
+    directory: &mut [u64],
+    cells: &[u64],
+    header: Header,
+    bytes: u64,
+) -> Made
+    requires { ⌜ Good (state heap (now slots) (now scalars) (now list) (now directory) (now cells)) × (judgedNew heap (length (now cells)) bytes (header .size) ≡ Accepted) × (heap .top + header .size ≤ length (now cells)) × (heap .entries < heap .size * 2) ⌝ }
+    ensures { λ r. ⌜ (state (r .heap) (now (slots .exit)) (now (scalars .entry)) (now (list .entry)) (now (directory .exit)) (now (cells .entry)) ≡ placedRegion (state heap (now (slots .entry)) (now (scalars .entry)) (now (list .entry)) (now (directory .entry)) (now (cells .entry))) header bytes) × (r .answer ≡ Is (newWord (state heap (now (slots .entry)) (now (scalars .entry)) (now (list .entry)) (now (directory .entry)) (now (cells .entry))) (header .kind))) ⌝ }
+{
+    let at = heap.entries as usize;
+    directory[at] = next_slot(list, heap.fresh, heap.free);
+    let mut new = header;
+    new.start = heap.top;
+    new.entry = heap.entries;
+    let made = seat(heap, slots, list, new, bytes);
+    let mut h = made.heap;
+    h.top = heap.top + header.size;
+    h.entries = heap.entries + 1;
+    let answer = made.answer;
+    Made { heap: h, answer }
+}
+
+// Room for a region of `size` cells at the top; regions may move.
+pub fn make_room(
+    heap: Heap,
+    slots: &mut [u64],
+    scalars: &[u64],
+    list: &[u64],
+    directory: &mut [u64],
+    cells: &mut [u64],
+    size: u64,
+) -> Heap
+    requires { ⌜ Good (state heap (now slots) (now scalars) (now list) (now directory) (now cells)) × (heap .taken + size ≤ length (now cells)) ⌝ }
+    ensures { λ r. ⌜ Roomy (state heap (now (slots .entry)) (now (scalars .entry)) (now (list .entry)) (now (directory .entry)) (now (cells .entry))) (state r (now (slots .exit)) (now (scalars .entry)) (now (list .entry)) (now (directory .exit)) (now (cells .exit))) size ⌝ }
+{
+    let before = Top {
+        cells: heap.top,
+        entries: heap.entries,
+    };
+    let t = cells::reserve(
+        slots,
+        heap.fresh,
+        directory,
+        heap.size * 2,
+        before,
+        cells,
+        size,
+    );
+    let mut h = heap;
+    h.top = t.cells;
+    h.entries = t.entries;
+    h
+}
+
+fn weight_fits(w: u64) -> bool
+    ensures { λ r. ⌜ r ≡ between 1 w 4096 ⌝ }
+{
+    if w < 1 {
+        return false;
+    }
+    w <= 4096
+}
+
+fn weights_fit(w: Weights) -> bool
+    ensures { λ r. ⌜ r ≡ weightsFit w ⌝ }
+{
+    if !weight_fits(w.slot) {
+        return false;
+    }
+    if !weight_fits(w.entry) {
+        return false;
+    }
+    if !weight_fits(w.iterator) {
+        return false;
+    }
+    if !weight_fits(w.coroutine) {
+        return false;
+    }
+    weight_fits(w.frame)
+}
+
+// Document 01's ranges: 1 to 65,536 slots, 0 to 1,048,576 cells, weights 1 to 4,096.
+fn sizes_fit(size: u64, cells: usize, weights: Weights) -> bool
+    ensures { λ r. ⌜ r ≡ sizesFit (openingOf size cells 0 weights []) ⌝ }
+{
+    if size < 1 {
+        return false;
+    }
+    if 65536 < size {
+        return false;
+    }
+    if 1048576 < cells {
+        return false;
+    }
+    weights_fit(weights)
+}
+
+// Whether lent buffers of these lengths are long enough for so many slots.
+fn has_room(
+    size: u64,
+    slots: usize,
+    scalars: usize,
+    list: usize,
+    directory: usize,
+    marks: usize,
+    order: usize,
+) -> bool
+    requires { ⌜ size ≤ 65536 ⌝ }
+    ensures { λ r. ⌜ r ≡ roomFor size slots scalars list directory marks order ⌝ }
+{
+    let n = size as usize;
+    if slots < n * 8 {
+        return false;
+    }
+    if scalars < n * 8 {
+        return false;
+    }
+    if list < n {
+        return false;
+    }
+    if directory < n * 2 {
+        return false;
+    }
+    if marks < n {
+        return false;
+    }
+    n * 2 <= order
+}
+
+fn clear_marks(marks: &mut [u8], n: usize)
+    requires { ⌜ n ≤ length (now marks) ⌝ }
+    ensures { λ r. ⌜ now (marks .exit) ≡ cleared (now (marks .entry)) n ⌝ }
+{
+    let mut i: usize = 0;
+    while i < n {
+        marks[i] = 0;
+        i += 1;
+    }
+}
+
+fn clear_order(order: &mut [u32], n: usize)
+    requires { ⌜ n ≤ length (now order) ⌝ }
+    ensures { λ r. ⌜ now (order .exit) ≡ cleared (now (order .entry)) n ⌝ }
+{
+    let mut i: usize = 0;
+    while i < n {
+        order[i] = 0;
+        i += 1;
+    }
+}
+
+// The record of a heap without objects.
+fn new_heap(size: u64, limit: u64, weights: Weights) -> Heap
+    ensures { λ r. ⌜ r ≡ newHeap size limit weights ⌝ }
+{
+    let account = Account::new(limit);
+    Heap {
+        account,
+        weights,
+        size,
+        fresh: 0,
+        free: 0,
+        top: 0,
+        entries: 0,
+        taken: 0,
+        present: 0,
+        collections: 0,
+        freed: 0,
+    }
+}
+
+// A heap of `size` slots over the lent buffers. The layout's sections go into the table; marks and
+// order are put to rest.
+pub fn open(
+    size: u64,
+    limit: u64,
+    weights: Weights,
+    layout: &[u8],
+    table: &mut [u64],
+    marks: &mut [u8],
+    order: &mut [u32],
+    slots: &[u64],
+    scalars: &[u64],
+    list: &[u64],
+    directory: &[u64],
+    cells: &[u64],
+) -> Opened
+    ensures { λ r. ⌜ Opens (openingOf size (length (now (cells .entry))) limit weights (now (layout .entry))) (state (newHeap size limit weights) (now (slots .entry)) (now (scalars .entry)) (now (list .entry)) (now (directory .entry)) (now (cells .entry))) (beside (now (table .entry)) (now (marks .entry)) (now (order .entry))) r (beside (now (table .exit)) (now (marks .exit)) (now (order .exit))) ⌝ }
+{
+    if !sizes_fit(size, cells.len(), weights) {
+        return Opened::Refused(Refusal::BadOpening);
+    }
+    if !has_room(
+        size,
+        slots.len(),
+        scalars.len(),
+        list.len(),
+        directory.len(),
+        marks.len(),
+        order.len(),
+    ) {
+        return Opened::Refused(Refusal::BadOpening);
+    }
+    match layout::read_layout(layout, table) {
+        Checked::Refused => Opened::Refused(Refusal::BadOpening),
+        Checked::Accepted => {
+            let n = size as usize;
+            clear_marks(marks, n);
+            clear_order(order, n * 2);
+            Opened::Ready(new_heap(size, limit, weights))
+        }
+    }
 }

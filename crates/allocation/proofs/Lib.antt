@@ -1,0 +1,4 @@
+pub mod MakeLaws
+pub mod PlainLaws
+pub mod RegionLaws
+pub mod CoroutineLaws

@@ -1,0 +1,24 @@
+-- `allocation::new_cell` meets its contract. Assumes nothing.
+use Rattle.allocation.proofs.PlainLaws.{cell-made, cell-refused}
+use borrow.Author.Needs.{needs}
+use Rattle.allocation.proofs.new_cell.Statement.{statement}
+use Rattle.allocation.proofs.new_cell.Tie as tie
+
+returns : tie.Need-returns
+returns c = cell-refused (c .before .before .before .before .before .before .pre) _ _ (c .if1 .taken)
+
+header-requires : tie.Need-header-requires
+header-requires c κs = search needs
+
+new-plain-requires : tie.Need-new-plain-requires
+new-plain-requires c κs = search needs
+
+same-length : tie.Need-same-length
+same-length c = search needs
+
+returns-2 : tie.Need-returns-2
+returns-2 c = cell-made (c .before .before .before .before .before .before .before .before .before .before .before .before .pre) (c .before .before .before .before .before .before .if1 .left) (c .before .before .before .before .header .ensures) (c .before .before .new-plain .ensures)
+
+pub new-cell-spec : {M : Type 1} → statement M
+new-cell-spec =
+    tie.close (tie.spec returns header-requires new-plain-requires same-length returns-2)

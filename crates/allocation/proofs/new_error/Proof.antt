@@ -1,0 +1,20 @@
+-- `allocation::new_error` meets its contract. Assumes nothing.
+use Rattle.allocation.proofs.PlainLaws.{error-made}
+use borrow.Author.Needs.{needs}
+use Rattle.allocation.proofs.new_error.Statement.{statement}
+use Rattle.allocation.proofs.new_error.Tie as tie
+
+header-requires : tie.Need-header-requires
+header-requires c κs = search needs
+
+new-plain-requires : tie.Need-new-plain-requires
+new-plain-requires c κs = search needs
+
+same-length : tie.Need-same-length
+same-length c = search needs
+
+returns : tie.Need-returns
+returns c = error-made (c .before .before .before .before .before .before .before .before .before .before .before .pre) (c .before .before .before .before .header .ensures) (c .before .before .new-plain .ensures)
+
+pub new-error-spec : {M : Type 1} → statement M
+new-error-spec = tie.close (tie.spec header-requires new-plain-requires same-length returns)

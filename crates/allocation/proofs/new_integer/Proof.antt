@@ -1,0 +1,25 @@
+-- `allocation::new_integer` meets its contract. Assumes nothing.
+use mir.Facts.{toZ-ofZ}
+use Rattle.allocation.proofs.PlainLaws.{integer-made}
+use borrow.Author.Needs.{needs}
+use Rattle.allocation.proofs.new_integer.Statement.{statement}
+use Rattle.allocation.proofs.new_integer.Tie as tie
+
+bits-of-requires : tie.Need-bits-of-requires
+bits-of-requires c κs = search needs
+
+header-requires : tie.Need-header-requires
+header-requires c κs = search needs
+
+new-plain-requires : tie.Need-new-plain-requires
+new-plain-requires c κs = search needs
+
+same-length : tie.Need-same-length
+same-length c = search needs
+
+returns : tie.Need-returns
+returns c = integer-made (c .before .before .before .before .before .before .before .before .before .before .before .before .pre) (c .before .before .before .before .before .before .before .before .before .before .before .before .fits .z) (rw (toZ-ofZ (c .before .before .before .before .before .before .before .before .before .before .before .before .fits .z)) at (c .before .before .before .before .before .bits-of .ensures)) (c .before .before .before .before .header .ensures) (c .before .before .new-plain .ensures)
+
+pub new-integer-spec : {M : Type 1} → statement M
+new-integer-spec =
+    tie.close (tie.spec bits-of-requires header-requires new-plain-requires same-length returns)

@@ -1,0 +1,39 @@
+-- `allocation::new_plain` meets its contract. Assumes nothing.
+use mathlib.Core.Path.{_∙_, sym}
+use Rattle.allocation.proofs.MakeLaws.{plain-accepted, plain-refused}
+use borrow.Author.Needs.{needs}
+use Rattle.allocation.proofs.new_plain.Statement.{statement}
+use Rattle.allocation.proofs.new_plain.Tie as tie
+
+judge-new-requires : tie.Need-judge-new-requires
+judge-new-requires c κs = search needs
+
+enum-known-q : tie.Need-enum-known-q
+enum-known-q c = search needs
+
+enum-told : tie.Need-enum-told
+enum-told c = search needs
+
+place-plain-requires : tie.Need-place-plain-requires
+place-plain-requires c κs = ((c .before .before .before .before .before .before .before .before .before .pre), sym (c .before .before .before .judge-new .ensures) ∙ (c .before .enum-told .given) .1)
+
+returns : tie.Need-returns
+returns c = plain-refused (c .before .before .before .judge-new .ensures) ((c .before .q .given) .1)
+
+same-length : tie.Need-same-length
+same-length c = search needs
+
+returns-2 : tie.Need-returns-2
+returns-2 c = plain-accepted (c .before .before .before .before .before .before .judge-new .ensures) ((c .before .before .before .before .enum-told .given) .1) (c .before .before .place-plain .ensures)
+
+pub new-plain-spec : {M : Type 1} → statement M
+new-plain-spec =
+    tie.close
+    (tie.spec
+    judge-new-requires
+    enum-known-q
+    enum-told
+    place-plain-requires
+    returns
+    same-length
+    returns-2)

@@ -1,0 +1,24 @@
+-- `allocation::new_struct` meets its contract. Assumes nothing.
+use Rattle.allocation.proofs.RegionLaws.{struct-made}
+use borrow.Author.Needs.{needs}
+use Rattle.allocation.proofs.new_struct.Statement.{statement}
+use Rattle.allocation.proofs.new_struct.Tie as tie
+
+new-words-requires : tie.Need-new-words-requires
+new-words-requires c κs = search needs
+
+same-length : tie.Need-same-length
+same-length c = search needs
+
+same-length-2 : tie.Need-same-length-2
+same-length-2 c = search needs
+
+same-length-3 : tie.Need-same-length-3
+same-length-3 c = search needs
+
+returns : tie.Need-returns
+returns c = struct-made (c .before .before .before .before .before .before .before .before .before .before .before .before .before .before .before .before .pre) (c .before .before .before .before .before .before .new-words .ensures)
+
+pub new-struct-spec : {M : Type 1} → statement M
+new-struct-spec =
+    tie.close (tie.spec new-words-requires same-length same-length-2 same-length-3 returns)

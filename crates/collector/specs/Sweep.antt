@@ -1,0 +1,162 @@
+-- The sweep (document 01, "Kept set": "freed slots are taken from low to high; generation grows by 1, but 32,767 is retired. Used becomes the
+-- kept weights").
+use Prim.Native.Nat.{ℕ, zero, suc, _+_, _*_, _%_, _≤_, _<_}
+use mathlib.Core.Path.{_≡_}
+use mathlib.Core.Bool.{Bool, true, false, cond, _&&_, not}
+use mathlib.Core.List.{List}
+use mathlib.Core.Logic.{_≢_}
+use lib.Dec.{eqb}
+use lib.ListN.{length, getD, set}
+use Rattle.slots.specs.Header.{headerAt, scalarsAt, setHeader}
+use Rattle.slots.specs.FreeList.{Listed, freeList}
+use Rattle.slots.specs.declared.Header.{Header}
+use Rattle.cells.specs.Regions.{sumTo}
+use Rattle.model.specs.Slots as Slots
+use Rattle.model.specs.Slots.{one, freeListAfter}
+use Rattle.model.specs.declared.Weights.{Weights}
+use Rattle.account.specs.Account.{afterSweep, saturated}
+use Rattle.heap.specs.declared.Heap.{Heap}
+use Rattle.heap.specs.State.{State}
+use Rattle.heap.specs.Good.{WeightsGood}
+use Rattle.collector.specs.declared.Tally.{Tally}
+
+-- ---- one object's weight: document 01's column "bytes beyond the slot weight", read off the header; f: a coroutine's frames
+
+unfoldable pub bytesAt : Weights → Header → ℕ → ℕ
+bytesAt w h f =
+    cond (eqb (h .kind) 1) (h .len)
+    (cond (eqb (h .kind) 6) (8 * h .size)
+    (cond (eqb (h .kind) 7) (w .entry * h .value + 4 * h .mode)
+    (cond (eqb (h .kind) 8) (8 * h .len)
+    (cond (eqb (h .kind) 9) (8 * h .len)
+    (cond (eqb (h .kind) 10) (w .iterator)
+    (cond (eqb (h .kind) 11) (w .coroutine + 8 * h .len + w .frame * f)
+    0))))))
+
+abbrev pub weightAt : Weights → Header → ℕ → ℕ
+weightAt w h f = w .slot + bytesAt w h f
+
+-- numbers small enough to be weighed
+pub record Weighable (h : Header) (f : ℕ) : Type 0 where
+  pub size : h .size ≤ 1048576
+  pub string : h .kind ≡ 1 → h .len ≤ 8388608
+  pub capacity : h .kind ≡ 7 → h .value ≤ 1048576
+  pub index : h .kind ≡ 7 → h .mode ≤ 2097153
+  pub fields : h .kind ≡ 8 → h .len ≤ 1048576
+  pub captures : h .kind ≡ 9 → h .len ≤ 1048576
+  pub registers : h .kind ≡ 11 → h .len ≤ 1048576
+  pub frames : h .kind ≡ 11 → f ≤ 1048576
+
+-- ---- one slot
+
+abbrev pub nextGeneration : ℕ → ℕ
+nextGeneration g = cond (eqb g 32767) g (suc g)
+
+-- a slot without an object: the tag is the generation of its next one
+abbrev pub emptyHeader : ℕ → Header
+emptyHeader g = record { half = 65536 + g; kind = 0; value = 0; mode = 0; len = 0; size = 0; start = 0; entry = 0 }
+
+abbrev pub freedHeader : Header → Header
+freedHeader h = emptyHeader (nextGeneration (h .half % 32768))
+
+-- the object in slot j is not marked
+unfoldable pub freedAt : List ℕ → List ℕ → ℕ → Bool
+freedAt m s j = not (eqb (headerAt s j .kind) 0) && eqb (getD m j 0) 0
+
+-- and its slot may be used again
+unfoldable pub returnedAt : List ℕ → List ℕ → ℕ → Bool
+returnedAt m s j = freedAt m s j && not (eqb (headerAt s j .half % 32768) 32767)
+
+unfoldable pub sweptHeader : List ℕ → List ℕ → ℕ → Header
+sweptHeader m s j = cond (freedAt m s j) (freedHeader (headerAt s j)) (headerAt s j)
+
+-- 1 for a slot with an object
+abbrev pub filledIn : List ℕ → ℕ → ℕ
+filledIn s j = cond (eqb (headerAt s j .kind) 0) 0 1
+
+-- ---- the counts
+
+abbrev pub keptTally : Tally → ℕ → ℕ → Tally
+keptTally t weight size = record { free = t .free; freed = t .freed; weight = t .weight + weight; taken = t .taken + size; present = t .present + 1 }
+
+abbrev pub retiredTally : Tally → Tally
+retiredTally t = record { free = t .free; freed = t .freed + 1; weight = t .weight; taken = t .taken; present = t .present }
+
+abbrev pub returnedTally : Tally → Tally
+returnedTally t = record { free = t .free + 1; freed = t .freed + 1; weight = t .weight; taken = t .taken; present = t .present }
+
+-- what becomes of slot i, of the free list and of the counts
+pub data Looked (s x l m : List ℕ) (i : ℕ) (w : Weights) (t : Tally) (s′ l′ : List ℕ) (t′ : Tally) : Type 0 where
+  vacant : headerAt s i .kind ≡ 0 → s′ ≡ s → l′ ≡ l → t′ ≡ t → Looked s x l m i w t s′ l′ t′
+  stays : headerAt s i .kind ≢ 0 → getD m i 0 ≢ 0 → s′ ≡ s → l′ ≡ l → t′ ≡ keptTally t (weightAt w (headerAt s i) (scalarsAt x i .f)) (headerAt s i .size) → Looked s x l m i w t s′ l′ t′
+  retires : headerAt s i .kind ≢ 0 → getD m i 0 ≡ 0 → headerAt s i .half % 32768 ≡ 32767 → s′ ≡ setHeader s i (freedHeader (headerAt s i)) → l′ ≡ l → t′ ≡ retiredTally t → Looked s x l m i w t s′ l′ t′
+  returns : headerAt s i .kind ≢ 0 → getD m i 0 ≡ 0 → headerAt s i .half % 32768 ≢ 32767 → s′ ≡ setHeader s i (freedHeader (headerAt s i)) → l′ ≡ set l (t .free) i → t′ ≡ returnedTally t → Looked s x l m i w t s′ l′ t′
+
+-- what looking at slot i asks
+pub record Lookable (s x l m : List ℕ) (i : ℕ) (w : Weights) (t : Tally) : Type 0 where
+  pub few : i < 65536
+  pub slots-fit : i * 8 + 8 ≤ length s
+  pub scalars-fit : i * 8 + 8 ≤ length x
+  pub marks-fit : i < length m
+  pub weighable : Weighable (headerAt s i) (scalarsAt x i .f)
+  pub weights : WeightsGood w
+  pub room : headerAt s i .kind ≢ 0 → t .free < length l
+  pub free : t .free ≤ 65536
+  pub freed : t .freed ≤ i
+  pub heavy : t .weight ≤ i * 8589934592
+  pub cells : t .taken ≤ i * 1048576
+  pub present : t .present ≤ i
+
+-- ---- all slots
+
+-- the first i of n slots are swept
+pub record Swept (n : ℕ) (w : Weights) (s₀ x l₀ m : List ℕ) (free₀ i : ℕ) (s l : List ℕ) (t : Tally) : Type 0 where
+  pub slots-length : length s ≡ length s₀
+  pub list-length : length l ≡ length l₀
+  pub done : (j : ℕ) → j < i → headerAt s j ≡ sweptHeader m s₀ j
+  pub left : (j : ℕ) → i ≤ j → headerAt s j ≡ headerAt s₀ j
+  pub listed : Listed s l n (t .free)
+  pub list : freeList l (t .free) ≡ freeListAfter (returnedAt m s₀) i (freeList l₀ free₀)
+  pub freed : t .freed ≡ Slots.sumTo i (λ j. one (freedAt m s₀ j))
+  pub weight : t .weight ≡ Slots.sumTo i (λ j. cond (eqb (sweptHeader m s₀ j .kind) 0) 0 (weightAt w (headerAt s₀ j) (scalarsAt x j .f)))
+  pub taken : t .taken ≡ sumTo (λ j. sweptHeader m s₀ j .size) i
+  pub present : t .present ≡ sumTo (λ j. cond (eqb (sweptHeader m s₀ j .kind) 0) 0 1) i
+  pub room : (t .free + t .present) + sumTo (filledIn s₀) n ≤ n + sumTo (filledIn s₀) i
+  pub few-freed : t .freed ≤ i
+  pub heavy : t .weight ≤ i * 8589934592
+  pub few-cells : t .taken ≤ i * 1048576
+  pub few-present : t .present ≤ i
+
+-- what the sweep asks
+pub record Sweepable (n : ℕ) (w : Weights) (s x l m : List ℕ) (free : ℕ) : Type 0 where
+  pub few : n ≤ 65536
+  pub slots-fit : n * 8 ≤ length s
+  pub scalars-fit : n * 8 ≤ length x
+  pub list-fit : n ≤ length l
+  pub marks-fit : length m ≡ n
+  pub weights : WeightsGood w
+  pub weighable : (j : ℕ) → j < n → Weighable (headerAt s j) (scalarsAt x j .f)
+  pub hollow : (j : ℕ) → j < n → headerAt s j .kind ≡ 0 → headerAt s j .size ≡ 0
+  pub listed : Listed s l n free
+  pub room : free + sumTo (filledIn s) n ≤ n
+
+-- ---- the heap afterwards
+
+-- the record: "used becomes the kept weights, since 0, threshold the larger of used and 262,144"; counts stop at 2^64 - 1
+abbrev pub heapAfter : Heap → Tally → Heap
+heapAfter h t = record {
+  account = afterSweep (h .account) (t .weight);
+  weights = h .weights;
+  size = h .size;
+  fresh = h .fresh;
+  free = t .free;
+  top = h .top;
+  entries = h .entries;
+  taken = t .taken;
+  present = t .present;
+  collections = saturated (h .collections + 1);
+  freed = saturated (h .freed + t .freed);
+}
+
+abbrev pub stateAfter : State → List ℕ → List ℕ → List ℕ → Tally → State
+stateAfter t s x l y = record { heap = heapAfter (t .heap) y; slots = s; scalars = x; list = l; directory = t .directory; cells = t .cells }

@@ -1,0 +1,170 @@
+-- The dropped coroutines counted and written.
+use mathlib.Core.Path.{_≡_, refl, sym, ap, _∙_}
+use mathlib.Core.Bool.{Bool, true, false, cond, _&&_, _||_}
+use mathlib.Core.List.{List, [], _∷_, _++_, append-nil, append-assoc}
+use Prim.Native.Nat.{ℕ, zero, suc, _+_, _-_, _*_, _%_, _≤_, _<_}
+use native.Mathlib.Omega.{arith}
+use native.Mathlib.Numerals.{add-one}
+use lib.Dec.{eqb}
+use lib.ListN.{length, getD, set, take, drop, replicate, length-set, length-append, take-append-drop, replicate-append-replicate}
+use lib.Seq.{drop-set-lt, take-suc-set, length-take-le, drop-cons}
+use borrow.Author.Tests.{eq-eqb, ne-eqb}
+use Rattle.slots.specs.Header.{headerAt, scalarsAt}
+use Rattle.slots.specs.declared.Header.{Header}
+use Rattle.slots.specs.declared.Scalars.{Scalars}
+use Rattle.model.specs.Replies.{written}
+use Rattle.marking.proofs.Doing.{drop-onward}
+use Rattle.finalizing.specs.Dropped.{waits, isDropped, sieve, finalizedIn, Fills}
+
+-- ---- one slot
+
+module _ (s x m : List ℕ) (i : ℕ) where
+  pub dropped-marked : (getD m i 0 ≡ 0 → ⊥) → false ≡ isDropped s x m i
+  unfolding isDropped
+  dropped-marked h = rw (ne-eqb (getD m i 0) 0 h)
+
+  module _ (z : getD m i 0 ≡ 0) {h : Header} (q : h ≡ headerAt s i) where
+    pub dropped-other : (h .kind ≡ 11 → ⊥) → false ≡ isDropped s x m i
+    unfolding isDropped waits
+    dropped-other k = rw (eq-eqb (getD m i 0) 0 z, ← q, ne-eqb (h .kind) 11 k)
+
+    module _ (k : h .kind ≡ 11) where
+      pub dropped-early : h .mode < 2 → false ≡ isDropped s x m i
+      unfolding isDropped waits
+      dropped-early l = rw (eq-eqb (getD m i 0) 0 z, ← q, eq-eqb (h .kind) 11 k, ne-eqb (h .mode) 2 (omega arith), ne-eqb (h .mode) 3 (omega arith))
+
+      pub dropped-late : 3 < h .mode → false ≡ isDropped s x m i
+      unfolding isDropped waits
+      dropped-late l = rw (eq-eqb (getD m i 0) 0 z, ← q, eq-eqb (h .kind) 11 k, ne-eqb (h .mode) 2 (omega arith), ne-eqb (h .mode) 3 (omega arith))
+
+      pub dropped-so : {y : Scalars} → y ≡ scalarsAt x i → 2 ≤ h .mode → h .mode ≤ 3 → eqb (y .a) 0 ≡ isDropped s x m i
+      unfolding isDropped waits
+      dropped-so {y} e a b = rw (eq-eqb (getD m i 0) 0 z, ← q, ← e, eq-eqb (h .kind) 11 k, either)
+        where
+          either : (eqb (h .mode) 2 || eqb (h .mode) 3) ≡ true
+          either = elim (native.Mathlib.Decide.ℕ-discrete (h .mode) 2) [ yes w ↦ rw (eq-eqb (h .mode) 2 w) | no w ↦ rw (ne-eqb (h .mode) 2 w, eq-eqb (h .mode) 3 (omega arith)) ]
+
+-- ---- all slots
+
+module _ (P : ℕ → Bool) (word : ℕ → ℕ) where
+  pub sieve-length : (f i : ℕ) → length (sieve P word f i) ≤ f
+  unfolding sieve
+  sieve-length zero i = omega arith
+  sieve-length (suc f) i = go (P i) (sieve-length f (suc i))
+    where
+      go : (b : Bool) → length (sieve P word f (suc i)) ≤ f → length (cond b (word i ∷ sieve P word f (suc i)) (sieve P word f (suc i))) ≤ suc f
+      go true h = omega arith
+      go false h = omega arith
+
+  module _ (n i : ℕ) (l : i < n) where
+    step : n - i ≡ suc (n - suc i)
+    step = omega arith
+
+    pub sieve-taken : P i ≡ true → sieve P word (n - i) i ≡ word i ∷ sieve P word (n - (i + 1)) (i + 1)
+    unfolding sieve
+    sieve-taken e = rw (add-one, step, e)
+
+    pub sieve-passed : P i ≡ false → sieve P word (n - i) i ≡ sieve P word (n - (i + 1)) (i + 1)
+    unfolding sieve
+    sieve-passed e = rw (add-one, step, e)
+
+  pub sieve-end : (n i : ℕ) → n ≤ i → sieve P word (n - i) i ≡ []
+  unfolding sieve
+  sieve-end n i l = let e : n - i ≡ 0 = omega arith in rw e
+
+  -- counting: what is left comes to the whole
+  pub record Counting (n i k : ℕ) : Type 0 where
+    pub at : i ≤ n
+    pub few : k ≤ i
+    pub left : k + length (sieve P word (n - i) i) ≡ length (sieve P word n 0)
+
+  pub counting-start : (n : ℕ) → Counting n 0 0
+  counting-start n = let e : n - 0 ≡ n = omega arith in record { at = omega arith; few = omega arith; left = rw e (omega arith) }
+
+  pub counting-taken : {n i k : ℕ} → Counting n i k → i < n → P i ≡ true → Counting n (i + 1) (k + 1)
+  counting-taken {n} {i} {k} v l e = record { at = omega arith; few = omega (arith, v .few); left = omega (arith, v .left, ap length (sieve-taken n i l e)) }
+
+  pub counting-passed : {n i k : ℕ} → Counting n i k → i < n → P i ≡ false → Counting n (i + 1) k
+  counting-passed {n} {i} {k} v l e = record { at = omega arith; few = omega (arith, v .few); left = omega (arith, v .left, ap length (sieve-passed n i l e)) }
+
+  pub counting-end : {n i k : ℕ} → Counting n i k → n ≤ i → k ≡ length (sieve P word n 0)
+  counting-end {n} {i} {k} v l = omega (arith, v .left, ap length (sieve-end n i l))
+
+  -- writing
+  pub record Filling (n : ℕ) (p₀ p : List ℕ) (i k : ℕ) : Type 0 where
+    pub counted : Counting n i k
+    pub room : length (sieve P word n 0) ≤ length p₀
+    pub len : length p ≡ length p₀
+    pub done : take k p ++ sieve P word (n - i) i ≡ sieve P word n 0
+    pub rest : drop k p ≡ drop k p₀
+
+  pub filling-start : (n : ℕ) (p₀ : List ℕ) → length (sieve P word n 0) ≤ length p₀ → Filling n p₀ p₀ 0 0
+  filling-start n p₀ r = let e : n - 0 ≡ n = omega arith in record { counted = counting-start n; room = r; len = refl; done = rw e; rest = refl }
+
+  module _ {n : ℕ} {p₀ p : List ℕ} {i k : ℕ} (v : Filling n p₀ p i k) where
+    pub filling-room : i < n → P i ≡ true → k < length p
+    filling-room l e = omega (arith, v .counted .left, ap length (sieve-taken n i l e), v .room, v .len)
+
+    pub filling-taken : {w : ℕ} → i < n → P i ≡ true → w ≡ word i → Filling n p₀ (set p k w) (i + 1) (k + 1)
+    filling-taken {w} l e q =
+        let low : k < length p = filling-room l e in
+        record {
+          counted = counting-taken (v .counted) l e;
+          room = v .room;
+          len = length-set p k w ∙ v .len;
+          done = rw (add-one k, take-suc-set p k w low, append-assoc, q) (rw (sieve-taken n i l e) at (v .done));
+          rest = drop-set-lt (k + 1) p k w (omega arith) ∙ drop-onward p p₀ k (k + 1) (omega arith) (v .rest);
+        }
+
+    pub filling-passed : i < n → P i ≡ false → Filling n p₀ p (i + 1) k
+    filling-passed l e = record { counted = counting-passed (v .counted) l e; room = v .room; len = v .len; done = rw (sieve-passed n i l e) at (v .done); rest = v .rest }
+
+    pub filling-end : n ≤ i → Fills (sieve P word n 0) p₀ p
+    unfolding written
+    filling-end l =
+        let e : take k p ≡ sieve P word n 0 = sym (append-nil (take k p)) ∙ (rw (sieve-end n i l) at (v .done)) in
+        let c : k ≡ length (sieve P word n 0) = counting-end (v .counted) l in
+        record { is = sym (take-append-drop k p) ∙ rw (e, v .rest, c) }
+
+-- ---- places cleared
+
+pub record Clearing (o₀ o : List ℕ) (n i : ℕ) : Type 0 where
+  pub at : i ≤ n
+  pub len : length o ≡ length o₀
+  pub done : take i o ≡ replicate i 0
+  pub rest : drop i o ≡ drop i o₀
+
+zeros-more : (i z : ℕ) → replicate i z ++ (z ∷ []) ≡ replicate (suc i) z
+zeros-more i z = replicate-append-replicate i 1 z ∙ ap (λ (n : ℕ). replicate n z) (add-one i)
+
+pub clearing-start : (o₀ : List ℕ) (n : ℕ) → Clearing o₀ o₀ n 0
+clearing-start o₀ n = record { at = omega arith; len = refl; done = refl; rest = refl }
+
+pub clearing-step : {o₀ o : List ℕ} {n i : ℕ} → n ≤ length o₀ → Clearing o₀ o n i → i < n → Clearing o₀ (set o i 0) n (i + 1)
+clearing-step {o₀} {o} {n} {i} f v l = rw (add-one i) (record {
+  at = l;
+  len = length-set o i 0 ∙ v .len;
+  done = take-suc-set o i 0 (omega (arith, v .len)) ∙ rw (v .done) (zeros-more i 0);
+  rest = drop-set-lt (suc i) o i 0 (omega arith) ∙ drop-onward o o₀ i (suc i) (omega arith) (v .rest);
+})
+
+pub clearing-end : {o₀ o : List ℕ} {n i : ℕ} → Clearing o₀ o n i → n ≤ i → o ≡ replicate n 0 ++ drop n o₀
+clearing-end {o₀} {o} {n} {i} v l = let e : i ≡ n = omega (arith, v .at) in sym (take-append-drop i o) ∙ rw (v .done, v .rest, e)
+
+-- ---- finalized
+
+pub record Finalizing (ws x₀ x : List ℕ) (i : ℕ) : Type 0 where
+  pub at : i ≤ length ws
+  pub len : length x ≡ length x₀
+  pub left : finalizedIn (drop i ws) x ≡ finalizedIn ws x₀
+
+pub finalizing-start : (ws x : List ℕ) → Finalizing ws x x 0
+finalizing-start ws x = record { at = omega arith; len = refl; left = refl }
+
+pub finalizing-step : {ws x₀ x : List ℕ} {i : ℕ} → Finalizing ws x₀ x i → i < length ws → Finalizing ws x₀ (set x (getD ws i 0 % 4294967296 * 8) 1) (i + 1)
+unfolding finalizedIn
+finalizing-step {ws} {x₀} {x} {i} v l = record { at = omega arith; len = length-set x (getD ws i 0 % 4294967296 * 8) 1 ∙ v .len; left = rw add-one (rw (drop-cons ws i 0 l) at (v .left)) }
+
+pub finalizing-end : {ws x₀ x : List ℕ} {i : ℕ} → Finalizing ws x₀ x i → length ws ≤ i → x ≡ finalizedIn ws x₀
+unfolding finalizedIn
+finalizing-end {ws} {x₀} {x} {i} v l = rw (lib.ListN.drop-of-length-le ws l) at (v .left)

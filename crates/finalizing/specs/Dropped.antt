@@ -1,0 +1,92 @@
+-- F, as the slots and the marks have it (document 01, "Kept set": "the yielded or awaiting, unfinalized coroutines outside R").
+use mathlib.Core.Path.{_≡_}
+use mathlib.Core.Bool.{Bool, cond, _&&_, _||_}
+use mathlib.Core.List.{List, [], _∷_}
+use Prim.Native.Nat.{ℕ, zero, suc, _+_, _*_, _%_, _≤_, _<_}
+use lib.Dec.{eqb}
+use lib.ListN.{length, getD, set, take, drop, replicate}
+use Rattle.slots.specs.Header.{headerAt, scalarsAt}
+use Rattle.layout.specs.Layout.{Layout}
+use Rattle.model.specs.Replies.{written}
+use Rattle.marking.specs.Reach.{phase}
+use Rattle.marking.specs.Children.{hit, children, wordAt}
+use Rattle.marking.specs.Marks.{Scanned}
+use Rattle.finalizing.specs.declared.Kept.{Kept}
+use Rattle.finalizing.specs.declared.Kept.the-variants as K
+use Rattle.finalizing.specs.Order.{seqOf, sortWords}
+
+-- slot i holds a coroutine of state 2 or 3 that is not finalized
+unfoldable pub waits : List ℕ → List ℕ → ℕ → Bool
+waits s x i = eqb (headerAt s i .kind) 11 && ((eqb (headerAt s i .mode) 2 || eqb (headerAt s i .mode) 3) && eqb (scalarsAt x i .a) 0)
+
+-- and is not marked
+unfoldable pub isDropped : List ℕ → List ℕ → List ℕ → ℕ → Bool
+isDropped s x m i = eqb (getD m i 0) 0 && waits s x i
+
+-- the references of the slots for which P holds, from slot i on, f slots
+unfoldable pub sieve : (ℕ → Bool) → (ℕ → ℕ) → ℕ → ℕ → List ℕ
+sieve P word zero i = []
+sieve P word (suc f) i = let rest = sieve P word f (suc i) in cond (P i) (word i ∷ rest) rest
+
+-- those of the first n slots, from low to high
+abbrev pub droppedSlots : List ℕ → List ℕ → List ℕ → ℕ → List ℕ
+droppedSlots s x m n = sieve (isDropped s x m) (wordAt s) n 0
+
+-- the marks of R, F by (sequence, word), and the marks of all that is kept
+abbrev pub marksOf : Layout → List ℕ → List ℕ → List ℕ → ℕ → List ℕ → List ℕ → List ℕ
+marksOf l s x c n ws m = phase n (hit s n) (children l s x c) ws m
+
+abbrev pub marksReached : Layout → List ℕ → List ℕ → List ℕ → ℕ → List ℕ → List ℕ
+marksReached l s x c n roots = marksOf l s x c n roots (replicate n 0)
+
+unfoldable pub droppedWords : Layout → List ℕ → List ℕ → List ℕ → ℕ → List ℕ → List ℕ
+droppedWords l s x c n roots = sortWords (seqOf s) (droppedSlots s x (marksReached l s x c n roots) n)
+
+unfoldable pub marksKept : Layout → List ℕ → List ℕ → List ℕ → ℕ → List ℕ → List ℕ
+marksKept l s x c n roots = marksOf l s x c n (droppedWords l s x c n roots) (marksReached l s x c n roots)
+
+-- "F becomes finalized": the scalar a of each named slot is 1
+unfoldable pub finalizedIn : List ℕ → List ℕ → List ℕ
+finalizedIn [] x = x
+finalizedIn (w ∷ ws) x = finalizedIn ws (set x (w % 4294967296 * 8) 1)
+
+-- the first n slots, with their marks
+pub record Listable (s x m : List ℕ) (n : ℕ) : Type 0 where
+  pub few : n ≤ 65536
+  pub slots-fit : n * 8 ≤ length s
+  pub scalars-fit : n * 8 ≤ length x
+  pub len : length m ≡ n
+  pub halves : (i : ℕ) → i < n → headerAt s i .half < 131072
+
+-- the words fill the list's first places
+pub record Fills (ws l l′ : List ℕ) : Type 0 where
+  pub is : l′ ≡ written ws l
+
+-- as many zeros as there are words, from place k of the order on
+abbrev pub Blank : List ℕ → ℕ → ℕ → Type 0
+Blank o k f = take f (drop k o) ≡ replicate f 0
+
+-- at rest: no slot is marked, and the order's places, two for each slot, hold 0
+pub record Blanks (n : ℕ) (m o : List ℕ) : Type 0 where
+  pub marks : m ≡ replicate n 0
+  pub room : n * 2 ≤ length o
+  pub order : (i : ℕ) → i < n * 2 → getD o i 0 ≡ 0
+
+-- the lent list is too short: nothing has changed
+pub record TooFew (f : List ℕ) (m o p m′ o′ p′ : List ℕ) : Type 0 where
+  pub short : length p < length f
+  pub marks : m′ ≡ m
+  pub order : o′ ≡ o
+  pub places : p′ ≡ p
+
+-- F is listed, and all that is kept is marked
+pub record AllKept (s : List ℕ) (n : ℕ) (f kept o p m′ o′ p′ : List ℕ) (listed marked : ℕ) : Type 0 where
+  pub count : listed ≡ length f
+  pub fits : length f ≤ length p
+  pub marks : m′ ≡ kept
+  pub places : p′ ≡ written f p
+  pub scanned : Scanned s n o 0 m′ o′ marked
+
+abbrev pub Keeps : Kept → List ℕ → ℕ → List ℕ → List ℕ → List ℕ → List ℕ → List ℕ → List ℕ → List ℕ → List ℕ → Type 0
+Keeps K.Short s n f kept m o p m′ o′ p′ = TooFew f m o p m′ o′ p′
+Keeps (K.Done listed marked) s n f kept m o p m′ o′ p′ = AllKept s n f kept o p m′ o′ p′ listed marked

@@ -1,0 +1,3 @@
+pub mod PutsLaws
+pub mod DigitsLaws
+pub mod LittleLaws
