@@ -1,9 +1,8 @@
 -- Arrays: an item taken off the end. Assumes nothing.
-use Prim.Native.Nat.{ℕ, zero, suc, _+_, _*_, _-_, _≤_, _<_}
+use Prim.Native.Nat.{ℕ, _+_, _*_, _-_, _≤_, _<_}
 use mathlib.Core.Path.{_≡_, refl, ap, sym, _∙_}
-use mathlib.Core.Bool.{Bool, true, false, not}
+use mathlib.Core.Bool.{true, false, not}
 use mathlib.Core.List.{List, [], _∷_}
-use mathlib.Core.Option.{some}
 use native.Mathlib.Omega.{arith}
 use lib.ListN.{getD, length, set, take}
 use lib.Seq.{getD-take, length-take-le, take-take}
@@ -16,9 +15,9 @@ use Rattle.cells.proofs.RawLaws.{region-get, region-length}
 use Rattle.layout.specs.Layout.{Layout}
 use Rattle.model.specs.Calls as Calls
 use Rattle.model.specs.Calls.{effect}
-use Rattle.model.specs.Content.{Array, Content, array}
+use Rattle.model.specs.Content.{array}
 use Rattle.model.specs.Model.{viewOf}
-use Rattle.model.specs.Replies.{nothing, number}
+use Rattle.model.specs.Replies.{number}
 use Rattle.model.specs.Refusals.{first, isEmpty, target, unless}
 use Rattle.model.specs.Rules.{item, pop-item, same-room}
 use Rattle.model.specs.Terms.{an-array, charging, items, popped, terms}
@@ -27,18 +26,16 @@ use Rattle.heap.specs.declared.Located.the-variants as L
 use Rattle.heap.specs.declared.Refusal.{Refusal}
 use Rattle.heap.specs.declared.Refusal.the-variants as No
 use Rattle.heap.specs.Answers.{answered, numberOf, refused}
-use Rattle.heap.specs.Kinds.{contentOf, roomOf}
+use Rattle.heap.specs.Kinds.{contentOf}
 use Rattle.heap.specs.Locating.{Locates}
 use Rattle.heap.specs.State.{State, modelOf, moreOf, rawOf, withSlots}
 use Rattle.heap.specs.Good.{Good, SlotGood}
-use Rattle.heap.specs.Promise.{Performs, Reads}
+use Rattle.heap.specs.Promise.{Performs}
 use Rattle.heap.proofs.DoesLaws.{does-5, does-own, first-none, first-passes, first-refuses}
-use Rattle.heap.proofs.KindLaws.{content-array, room-array, says-array}
+use Rattle.heap.proofs.KindLaws.{content-array, rawWords, room-array, says-array}
 use Rattle.heap.proofs.ReachLaws.{Target, located-at, target-met}
 use Rattle.heap.proofs.ReadLaws.{object-refused, reads-array, reads-items}
-use Rattle.heap.proofs.SlotLaws.{raw-length}
 use Rattle.heap.proofs.StepLaws.{own-len, raw-words, touched-words}
-use Rattle.heap.proofs.KindLaws.{rawWords}
 use Rattle.heap.proofs.StoreLaws.{Stored, does-stored-charged}
 use Rattle.heap.proofs.TouchLaws.{touched-none}
 use Rattle.collections.specs.Words.{ItemIs}

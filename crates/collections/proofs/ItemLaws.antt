@@ -8,13 +8,13 @@ use Rattle.model.specs.Calls as Calls
 use Rattle.model.specs.Calls.{effect}
 use Rattle.model.specs.View as View
 use Rattle.model.specs.Model.{viewOf}
-use Rattle.model.specs.Replies.{Answer, Reply, number, reply}
+use Rattle.model.specs.Replies.{Answer, number, reply}
 use Rattle.model.specs.Rules.{item}
 use Rattle.model.specs.Terms.{terms, uncharged}
 use Rattle.heap.specs.Answers.{answered}
 use Rattle.heap.specs.State.{State, modelOf}
 use Rattle.heap.specs.Good.{Good}
-use Rattle.heap.specs.Promise.{Performs, Reads}
+use Rattle.heap.specs.Promise.{Reads}
 use Rattle.heap.proofs.DoesLaws.{does-answered, first-none}
 use Rattle.collections.specs.Words.{ItemIs}
 

@@ -1,10 +1,8 @@
 -- Readings of an iterator. Assumes nothing.
 use Prim.Native.Nat.{ℕ, _*_, _+_, _≤_, _<_}
-use mathlib.Core.Path.{_≡_, refl, ap, sym, _∙_}
+use mathlib.Core.Path.{_≡_, refl, ap, _∙_}
 use mathlib.Core.Bool.{false, cond}
-use mathlib.Core.List.{List, []}
 use mathlib.Core.Option.{Option, none, some}
-use native.Mathlib.Omega.{arith}
 use lib.Dec.{eqb}
 use lib.ListN.{length}
 use Rattle.slots.specs.Header.{headerAt, scalarsAt}
@@ -18,7 +16,7 @@ use Rattle.model.specs.Calls as Calls
 use Rattle.model.specs.Calls.{effect}
 use Rattle.model.specs.Content.{Content, Iterator, array, box, cell, closure, coroutine, error, integer, iterator, map-object, row, string, struct}
 use Rattle.model.specs.View.{look}
-use Rattle.model.specs.Replies.{Reply, array-cursor, map-cursor, nothing, number, perhaps, truth}
+use Rattle.model.specs.Replies.{array-cursor, map-cursor, nothing, number, perhaps, truth}
 use Rattle.model.specs.Model.{viewOf}
 use Rattle.model.specs.Terms.{cursorReply, lastKey, readOr, terms, uncharged}
 use Rattle.heap.specs.declared.Located.{Located}
@@ -30,12 +28,12 @@ use Rattle.heap.specs.Answers.{answered, readingIs, refused}
 use Rattle.heap.specs.Kinds.{cursorOf, yes}
 use Rattle.heap.specs.Kinds as Kinds
 use Rattle.heap.specs.Locating.{Locates, Ranks}
-use Rattle.heap.specs.State.{State, modelOf, moreOf, rawOf}
+use Rattle.heap.specs.State.{State, modelOf}
 use Rattle.heap.specs.Good.{Good}
-use Rattle.heap.specs.Promise.{Performs, Reads}
+use Rattle.heap.specs.Promise.{Reads}
 use Rattle.heap.proofs.CallLaws.{row-read}
 use Rattle.heap.proofs.KindLaws.{says-iterator}
-use Rattle.heap.proofs.ReachLaws.{Target, located-at, scalars-fit}
+use Rattle.heap.proofs.ReachLaws.{located-at, scalars-fit}
 use Rattle.heap.proofs.ReadLaws.{reads-iterator}
 use Rattle.collections.specs.Words.{WordOf}
 use Rattle.collections.proofs.ReadingLaws.{first-word, row-answered, row-flag, row-flag-refused, row-number, row-refused}

@@ -8,3 +8,8 @@ pub mod ArrayLaws
 pub mod MapStoreLaws
 pub mod ChargeLaws
 pub mod VisitLaws
+pub mod GrowthLaws
+pub mod PushLaws
+pub mod ChangeLaws
+pub mod InsertLaws
+pub mod RemoveLaws

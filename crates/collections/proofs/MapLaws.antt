@@ -1,19 +1,19 @@
 -- Readings of a map. Assumes nothing.
-use Prim.Native.Nat.{ℕ, _+_, _*_, _≤_, _<_}
+use Prim.Native.Nat.{ℕ, _+_, _*_, _/_, _≤_, _<_}
 use mathlib.Core.Path.{_≡_, refl, ap, sym, _∙_}
 use mathlib.Core.Bool.{Bool, true, false, cond, not}
 use mathlib.Core.List.{List, [], _∷_}
-use mathlib.Core.Option.{Option, none, some}
+use mathlib.Core.Option.{none, some}
 use native.Mathlib.Omega.{arith}
 use lib.Dec.{eqb, ltb}
 use borrow.Author.Tests.{ltb-false, ltb-true}
 use lib.IntN.{ℤ}
-use lib.ListN.{getD, length}
+use lib.ListN.{length}
 use Rattle.slots.specs.Header.{headerAt, scalarsAt}
 use Rattle.slots.specs.Signed.{signed64}
 use Rattle.slots.specs.declared.Header.{Header}
 use Rattle.slots.specs.declared.Scalars.{Scalars}
-use Rattle.cells.specs.Regions.{Raw, rawAt, regionOf}
+use Rattle.cells.specs.Regions.{rawAt, regionOf}
 use Rattle.history.proofs.Facts.{eqb-no, eqb-yes}
 use Rattle.layout.specs.Layout.{Layout, isTraced}
 use Rattle.map_store.specs.Store as Maps
@@ -31,11 +31,11 @@ use Rattle.map_store.specs.declared.NextKey.the-variants as N
 use Rattle.map_store.specs.declared.Stepped.{Stepped}
 use Rattle.map_store.specs.declared.Stored.{Stored}
 use Rattle.model.specs.Calls as Calls
-use Rattle.model.specs.Calls.{Call, effect}
+use Rattle.model.specs.Calls.{effect}
 use Rattle.model.specs.Replies.{cursor-at, entry-is, next-integer, noted, nothing, number, perhaps, reply, truth}
 use Rattle.model.specs.Slots as Slots
 use Rattle.model.specs.Refusals.{inside}
-use Rattle.model.specs.Terms.{a-map, growth, keyTraced, mapStore, terms, uncharged}
+use Rattle.model.specs.Terms.{growth, keyTraced, mapStore, terms, uncharged}
 use Rattle.heap.specs.declared.Located.{Located}
 use Rattle.heap.specs.declared.Located.the-variants as L
 use Rattle.heap.specs.declared.Refusal.{Refusal}
@@ -43,14 +43,15 @@ use Rattle.heap.specs.declared.Refusal.the-variants as No
 use Rattle.heap.specs.declared.Reading.{Reading}
 use Rattle.heap.specs.declared.Reading.the-variants as Read
 use Rattle.heap.specs.Answers.{answered, numberOf, readingIs, refused}
-use Rattle.heap.specs.Kinds.{mapOf, yes}
+use Rattle.heap.specs.Kinds.{yes}
 use Rattle.heap.specs.Locating.{Locates}
 use Rattle.heap.specs.State.{State, modelOf, moreOf, rawOf}
 use Rattle.heap.specs.Good.{Good}
-use Rattle.heap.specs.Promise.{Performs, Reads}
+use Rattle.heap.specs.Promise.{Reads}
 use Rattle.heap.proofs.KindLaws.{room-map, says-map}
-use Rattle.heap.proofs.ReachLaws.{Target, located-at, reached-room, scalars-fit, slot-fits}
+use Rattle.heap.proofs.ReachLaws.{Target, located-at, reached-room, scalars-fit}
 use Rattle.heap.proofs.ReadLaws.{object-answered, object-inside, object-outside, object-refused, reads-keyTraced, reads-map, reads-mapStore}
+use Rattle.collections.specs.Changes.{IsMap}
 use Rattle.collections.specs.Words.{WordOf, mapFrom}
 use Rattle.collections.proofs.ReadingLaws.{first-word, row-answered, row-flag, row-flag-refused, row-number, row-refused}
 
@@ -138,7 +139,37 @@ noted-by n z = go (eqb n 0)
 
 -- ---- a map that is located
 
--- slot i holds the map that w reaches: its header, its scalars, its record and its cells
+-- slot i holds a map: its header, its scalars, its record and its cells
+pub record MapSlot (t : State) (i : ℕ) (h : Header) (x : Scalars) (s : MapStore) (c : List ℕ) : Type 0 where
+  pub good : Good t
+  pub within : i < t .heap .fresh
+  pub kind : headerAt (t .slots) i .kind ≡ 7
+  pub header : h ≡ headerAt (t .slots) i
+  pub scalars : x ≡ scalarsAt (t .scalars) i
+  pub map : s ≡ mapFrom h x
+  pub cells : c ≡ regionOf h (t .cells)
+
+module _ {t : State} {i : ℕ} (g : Good t) (o : IsMap t i) where
+  pub slot-epoch : {x : Scalars} → x ≡ scalarsAt (t .scalars) i → x .g < 4294967296
+  unfolding rawAt
+  slot-epoch p = rw p (g .each i (o .within) .map (o .kind) .2)
+
+  pub slot-region : {h : Header} → h ≡ headerAt (t .slots) i → h .start + h .size ≤ length (t .cells)
+  slot-region p = rw p (g .laid .inside i (o .within))
+
+  pub map-slot : {h : Header} {x : Scalars} {s : MapStore} {c : List ℕ} → h ≡ headerAt (t .slots) i → x ≡ scalarsAt (t .scalars) i → s ≡ mapFrom h x → c ≡ regionOf h (t .cells) → MapSlot t i h x s c
+  map-slot a b m n = record { good = g; within = o .within; kind = o .kind; header = a; scalars = b; map = m; cells = n }
+
+module _ {t : State} {i : ℕ} {h : Header} {x : Scalars} {s : MapStore} {c : List ℕ} (m : MapSlot t i h x s c) where
+  pub map-good : Map.Good s c
+  unfolding rawAt
+  map-good = rw (m .map, m .cells, m .header, m .scalars) (m .good .each i (m .within) .map (m .kind) .0)
+
+  pub map-size : h .size ≡ s .capacity * 5 + s .index / 2
+  unfolding rawAt
+  map-size = rw (m .map, m .header) (m .good .each i (m .within) .map (m .kind) .1)
+
+-- that w reaches
 pub record MapHere (t : State) (w i : ℕ) (h : Header) (x : Scalars) (s : MapStore) (c : List ℕ) : Type 0 where
   pub good : Good t
   pub target : Target t w i 7
@@ -146,6 +177,13 @@ pub record MapHere (t : State) (w i : ℕ) (h : Header) (x : Scalars) (s : MapSt
   pub scalars : x ≡ scalarsAt (t .scalars) i
   pub map : s ≡ mapFrom h x
   pub cells : c ≡ regionOf h (t .cells)
+
+pub slot-here : {t : State} {w i : ℕ} {h : Header} {x : Scalars} {s : MapStore} {c : List ℕ} → MapSlot t i h x s c → Target t w i 7 → MapHere t w i h x s c
+slot-here m o = record { good = m .good; target = o; header = m .header; scalars = m .scalars; map = m .map; cells = m .cells }
+
+pub here-slot : {t : State} {w i : ℕ} {h : Header} {x : Scalars} {s : MapStore} {c : List ℕ} → MapHere t w i h x s c → MapSlot t i h x s c
+unfolding rawAt
+here-slot m = record { good = m .good; within = m .target .reached .within; kind = m .target .kind-is; header = m .header; scalars = m .scalars; map = m .map; cells = m .cells }
 
 module _ {t : State} {w i : ℕ} {r : Located} (g : Good t) (d : Locates (t .slots) (t .heap .fresh) w 7 r) (e : r ≡ L.At i) where
   pub map-scalars-fit : (i < 65536) × (i * 8 + 8 ≤ length (t .scalars))
@@ -162,8 +200,7 @@ module _ {t : State} {w i : ℕ} {r : Located} (g : Good t) (d : Locates (t .slo
 
 module _ {t : State} {w i : ℕ} {h : Header} {x : Scalars} {s : MapStore} {c : List ℕ} (m : MapHere t w i h x s c) where
   pub here-good : Map.Good s c
-  unfolding rawAt
-  here-good = rw (m .map, m .cells, m .header, m .scalars) (m .good .each i (m .target .reached .within) .map (m .target .kind-is) .0)
+  here-good = map-good (here-slot m)
 
   pub here-store : (l : Layout) → mapStore (modelOf l t) w ≡ storeOf s c
   unfolding rawAt
@@ -225,6 +262,14 @@ module _ {t : State} {w i : ℕ} {h : Header} {x : Scalars} {s : MapStore} {c : 
   step-read {z} n f l =
       object-answered l (m .good) (Calls.next w z) (m .target) says-map refl refl refl
       (ap cursor-at (rw (here-store l) (ap (λ (q : Maps.Step). q .cursor) (sym f)))) (ap perhaps (rw (here-store l) (ap (λ (q : Maps.Step). q .answer) (sym f))))
+
+-- ---- where a key stands
+
+pub record Sought (x : Scalars) (s : MapStore) (c : List ℕ) (hash key : ℕ) (f : Found) : Type 0 where
+  pub is : position f ≡ Maps.find (isTraced (x .a)) hash key (storeOf s c)
+
+pub sought : {x : Scalars} {s : MapStore} {c : List ℕ} {hash key : ℕ} {f : Found} {b : Bool} → b ≡ isTraced (x .a) → position f ≡ Maps.find b hash key (storeOf s c) → Sought x s c hash key f
+sought e h = record { is = rw e at h }
 
 -- ---- the noted key of a map that is located
 

@@ -1,49 +1,42 @@
 -- A map that is changed in its slot. Assumes nothing.
-use Prim.Native.Nat.{ℕ, _+_, _*_, _/_, _≤_, _<_}
+use Prim.Native.Nat.{ℕ, _+_, _*_, _/_, _<_}
 use mathlib.Core.Path.{_≡_, refl, ap, sym, _∙_}
 use mathlib.Core.Bool.{Bool, true, false}
-use mathlib.Core.List.{List, [], _∷_}
-use mathlib.Core.Option.{none}
+use mathlib.Core.List.{List, []}
 use native.Mathlib.Omega.{arith}
 use lib.IntN.{ℤ}
-use lib.ListN.{length}
 use Rattle.slots.specs.Header.{headerAt, scalarsAt}
 use Rattle.slots.specs.declared.Header.{Header}
 use Rattle.slots.specs.declared.Scalars.{Scalars}
 use Rattle.cells.specs.Regions.{Raw, rawAt, regionOf}
-use Rattle.layout.specs.Layout.{Layout}
 use Rattle.map_store.specs.Store as Maps
 use Rattle.map_store.specs.Map as Map
 use Rattle.map_store.specs.View.{storeOf}
 use Rattle.map_store.specs.View as View
 use Rattle.map_store.specs.declared.MapStore.{MapStore}
 use Rattle.model.specs.Calls as Calls
-use Rattle.model.specs.Calls.{Call, effect}
+use Rattle.model.specs.Calls.{effect}
 use Rattle.model.specs.Content.{Content, map-object}
-use Rattle.model.specs.Content as Contents
-use Rattle.model.specs.Model.{viewOf}
 use Rattle.model.specs.Replies.{nothing}
 use Rattle.model.specs.Refusals.{target}
 use Rattle.model.specs.Rules.{on-map, same-room}
-use Rattle.model.specs.Terms.{a-map, terms, uncharged}
+use Rattle.model.specs.Terms.{terms, uncharged}
 use Rattle.heap.specs.declared.Located.{Located}
 use Rattle.heap.specs.declared.Located.the-variants as L
 use Rattle.heap.specs.declared.Refusal.{Refusal}
 use Rattle.heap.specs.Answers.{answered, refused}
 use Rattle.heap.specs.Kinds.{contentOf, mapOf, roomOf, yes}
 use Rattle.heap.specs.Locating.{Locates}
-use Rattle.heap.specs.State.{State, modelOf, moreOf, rawOf, withCells}
+use Rattle.heap.specs.State.{State, moreOf, rawOf, withCells}
 use Rattle.heap.specs.Good.{Good, SlotGood}
-use Rattle.heap.specs.Promise.{Performs, Reads}
-use Rattle.heap.proofs.KindLaws.{content-map, room-map, says-map}
-use Rattle.heap.proofs.ReachLaws.{Target}
+use Rattle.heap.specs.Promise.{Performs}
+use Rattle.heap.proofs.KindLaws.{content-map, rawCells, rawWords, room-map, says-map}
 use Rattle.heap.proofs.ReadLaws.{object-passes, object-refused}
 use Rattle.heap.proofs.StepLaws.{OwnCells, raw-cells, raw-words, touched-cells, touched-scalars, touched-words}
-use Rattle.heap.proofs.KindLaws.{rawCells, rawWords}
 use Rattle.heap.proofs.StoreLaws.{Stored, does-stored-free}
 use Rattle.heap.proofs.TouchLaws.{Touched, touched-none}
 use Rattle.collections.specs.Words.{MapWritten, flagOf, mapFrom, mapScalars}
-use Rattle.collections.proofs.MapLaws.{MapHere, here-good}
+use Rattle.collections.proofs.MapLaws.{MapHere, here-good, here-slot, map-size}
 
 -- a slot of kind 7 with the tag of a good one
 pub map-slot-good : {r r′ : Raw} {x x′ : Scalars} → SlotGood r x → r′ .half ≡ r .half → r′ .kind ≡ 7 → Map.Good (mapOf r′ x′) (r′ .cells) → r′ .size ≡ r′ .value * 5 + r′ .mode / 2 → x′ .g < 4294967296 → SlotGood r′ x′
@@ -119,13 +112,9 @@ module _ {t : State} {w i : ℕ} {h : Header} {x : Scalars} {s : MapStore} {c : 
   unfolding rawAt
   here-roomy = room-map (rawOf t i) (m .target .kind-is) ∙ rw (m .map, m .header)
 
-  pub here-size : h .size ≡ s .capacity * 5 + s .index / 2
-  unfolding rawAt
-  here-size = rw (m .map, m .header) (m .good .each i (m .target .reached .within) .map (m .target .kind-is) .1)
-
   -- ---- set_value
 
-  value-stored : {pos v : ℕ} {c′ : List ℕ} → OwnCells (t .cells) c′ (h .start) (h .size) → Map.Valued pos v s (regionOf h (t .cells)) (regionOf h c′) → Stored t (withCells t c′) i (on-map (λ b. Maps.withValue pos v)) same-room
+  pub value-stored : {pos v : ℕ} {c′ : List ℕ} → OwnCells (t .cells) c′ (h .start) (h .size) → Map.Valued pos v s (regionOf h (t .cells)) (regionOf h c′) → Stored t (withCells t c′) i (on-map (λ b. Maps.withValue pos v)) same-room
   unfolding on-map same-room rawAt
   value-stored {c′ = c′} own v =
       let o = m .target in
@@ -165,7 +154,7 @@ module _ {t : State} {w i : ℕ} {h : Header} {x : Scalars} {s : MapStore} {c : 
             changed-good j (o .reached .within) g (o .kind-is) u own (q .good (regionOf (headerAt (t .slots) i) (t .cells)) (rw (← ce) (here-good m)))
             (let cap : n .capacity ≡ s .capacity = ap (λ (r : Maps.Room). r .capacity) room in
             let ind : n .index ≡ s .index = ap (λ (r : Maps.Room). r .index) room in
-            rw (cap, ind, ← m .header) here-size);
+            rw (cap, ind, ← m .header) (map-size (here-slot m)));
         content =
             changed-content j (o .reached .within) g (o .kind-is) u own
             ∙ rw here-content (rw (← xe, ← ce) (ap (λ (z : Maps.Store). map-object record { keyType = x .a; valueType = x .b; store = z }) (q .store c)));

@@ -3,7 +3,6 @@ use Prim.Native.Nat.{ℕ, _+_, _*_, _≤_, _<_}
 use mathlib.Core.Path.{_≡_, refl, ap, sym, _∙_}
 use mathlib.Core.Bool.{Bool, true, false}
 use mathlib.Core.List.{List, [], _∷_}
-use mathlib.Core.Option.{none}
 use native.Mathlib.Nat.{add-zero}
 use native.Mathlib.Omega.{arith}
 use lib.Dec.{eqb}
@@ -15,26 +14,25 @@ use Rattle.slots.specs.declared.Found.the-variants as F
 use Rattle.layout.specs.Layout.{Layout}
 use Rattle.model.specs.Content.{Content}
 use Rattle.model.specs.Calls.{Call, effect, same}
-use Rattle.model.specs.Replies.{Lent, Reply, no-memory, number, truth}
+use Rattle.model.specs.Replies.{Reply, number, truth}
 use Rattle.model.specs.Model.{viewOf}
 use Rattle.model.specs.Refusals.{target}
-use Rattle.model.specs.Terms.{Terms, terms, uncharged}
+use Rattle.model.specs.Terms.{terms, uncharged}
 use Rattle.heap.specs.declared.Located.{Located}
 use Rattle.heap.specs.declared.Located.the-variants as L
 use Rattle.heap.specs.declared.Refusal.{Refusal}
 use Rattle.heap.specs.declared.Refusal.the-variants.{OtherKind}
 use Rattle.heap.specs.declared.Reading.{Reading}
 use Rattle.heap.specs.declared.Reading.the-variants as Read
-use Rattle.heap.specs.declared.Test.the-variants as Tells
-use Rattle.heap.specs.Answers.{answered, numberOf, readingIs, refused, testIs}
+use Rattle.heap.specs.Answers.{answered, readingIs, refused}
 use Rattle.heap.specs.Kinds.{yes}
 use Rattle.heap.specs.Locating.{Locates, locatedBy, locatedIn, pick}
 use Rattle.heap.specs.State.{State, modelOf}
 use Rattle.heap.specs.Good.{Good}
-use Rattle.heap.specs.Promise.{Performs, Reads}
+use Rattle.heap.specs.Promise.{Reads}
 use Rattle.heap.proofs.KindLaws.{Says}
 use Rattle.heap.proofs.LocateLaws.{found-within}
-use Rattle.heap.proofs.ReachLaws.{Target, located-at, located-refused}
+use Rattle.heap.proofs.ReachLaws.{Target, located-at}
 use Rattle.heap.proofs.ReadLaws.{object-answered, object-refused}
 use Rattle.collections.specs.Words.{WordOf, readBy}
 

@@ -1,7 +1,6 @@
 -- An object's cells as a part of the lent cells. Assumes nothing.
-use Prim.Native.Nat.{ℕ, _+_, _-_, _≤_, _<_}
+use Prim.Native.Nat.{ℕ, _+_, _-_, _≤_}
 use mathlib.Core.Path.{_≡_, ap, sym, _∙_}
-use mathlib.Core.Logic.{_⊎_}
 use mathlib.Core.List.{List, _++_}
 use native.Mathlib.Omega.{arith}
 use lib.ListN.{drop, getD, length, take}
@@ -10,6 +9,7 @@ use borrow.Rule.Slice.PartMut.{drop-put, mid-len, midOf, putMid, same-len-mid, t
 use Rattle.slots.proofs.Cases.{by-cases}
 use Rattle.slots.specs.declared.Header.{Header}
 use Rattle.cells.specs.Regions.{regionOf}
+use Rattle.cells.proofs.RawLaws.{region-length}
 use Rattle.heap.proofs.StepLaws.{OwnCells}
 
 abbrev ending : Header → ℕ
@@ -17,6 +17,10 @@ ending h = h .start + h .size
 
 pub region-part : (h : Header) (c : List ℕ) → take (h .start + h .size - h .start) (drop (h .start) c) ≡ regionOf h c
 region-part h c = let e : h .start + h .size - h .start ≡ h .size = omega arith in rw e
+
+-- what fits the size fits the cells
+pub region-length-fits : (h : Header) (c : List ℕ) {n : ℕ} → h .start + h .size ≤ length c → n ≤ h .size → n ≤ length (regionOf h c)
+region-length-fits h c l r = omega (arith, region-length h c l)
 
 -- ---- the cells after a call that was lent the part, which then held ys
 

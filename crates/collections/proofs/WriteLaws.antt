@@ -1,6 +1,6 @@
 -- A map's record and its cells, written. Assumes nothing.
 use Prim.Native.Nat.{ℕ, _+_, _-_, _*_, _≤_, _<_}
-use mathlib.Core.Path.{_≡_, ap, sym, _∙_}
+use mathlib.Core.Path.{_≡_, ap, _∙_}
 use mathlib.Core.List.{List}
 use lib.ListN.{length}
 use mir.Syntax.{w64}
@@ -15,7 +15,7 @@ use Rattle.cells.specs.Regions.{regionOf}
 use Rattle.map_store.specs.Map as Map
 use Rattle.map_store.specs.declared.MapStore.{MapStore}
 use Rattle.heap.proofs.StepLaws.{OwnCells, own-header, own-scalars, ownWords}
-use Rattle.collections.specs.Words.{MapWritten, flagOf, mapScalars}
+use Rattle.collections.specs.Words.{MapWritten, flagOf}
 use Rattle.collections.proofs.RegionLaws.{put-own, put-region, region-part}
 
 abbrev scalarsWith : Scalars → ℕ → ℕ → ℕ → MapStore → Scalars

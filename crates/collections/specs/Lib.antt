@@ -1,3 +1,5 @@
 pub mod Answers
 pub mod Words
 pub mod Visits
+pub mod Growth
+pub mod Changes

@@ -1,7 +1,6 @@
 -- An iterator's step (document 01, "Entry, index, cursor"; "push into, pop from and iteration over dynamic items dereference").
 use Prim.Native.Nat.{ℕ, _+_, _≤_, _<_}
 use mathlib.Core.Path.{_≡_}
-use mathlib.Core.List.{List}
 use mathlib.Core.Option.{Option, none, some}
 use lib.ListN.{length, take}
 use Rattle.slots.specs.declared.Header.{Header}

@@ -3,25 +3,31 @@ ghost use mathlib.Core.Path.{_≡_};
 ghost use Prim.Native.Nat.{_+_, _*_, _≤_, _<_};
 ghost use lib.ListN.{length};
 ghost use Rattle.layout.specs.Layout.{isTraced};
+ghost use Rattle.map_store.specs.Store as Maps;
 ghost use Rattle.map_store.specs.Map as Map;
 ghost use Rattle.map_store.specs.View.{cursorIs};
 ghost use Rattle.cells.specs.Regions.{regionOf};
 ghost use Rattle.model.specs.Calls as Calls;
 ghost use Rattle.heap.specs.Answers.{doneIs, readingIs, testIs};
 ghost use Rattle.heap.specs.Kinds.{cursorOf};
-ghost use Rattle.heap.specs.State.{state};
+ghost use Rattle.heap.specs.State.{state, withRegions};
 ghost use Rattle.heap.specs.Good.{Good};
 ghost use Rattle.heap.specs.Promise.{Performs, Reads};
 ghost use Rattle.heap.proofs.StepLaws.{OwnCells};
 ghost use Rattle.collections.specs.Answers.{perhapsIs, entrySeen, nextSeen, notedSeen, cursorSeen, stepSeen};
 ghost use Rattle.collections.specs.Words.{WordOf, mapFrom, MapWritten, flagOf, ItemIs, ZeroCharge};
+ghost use Rattle.collections.specs.Growth.{Lengthening, Lengthened, pushSize, pushBytes, Appending, Appended};
+ghost use Rattle.collections.specs.Changes.{Inserting, Removing, InRegion, IsMap, Inserts, Removes, roomAfter, roomWithout};
 ghost use Rattle.collections.specs.Visits.{ArrayKnown, MapKnown, Ends, Moves, VisitsArray, VisitsMap, Visits};
 use account::Account;
+use account::Charged;
+use cells::Top;
 use heap::Done;
 use heap::Heap;
 use heap::Located;
 use heap::Reading;
 use heap::Refusal;
+use heap::Settled;
 use heap::Test;
 use map_store::Cursor;
 use map_store::Last;
@@ -211,6 +217,94 @@ fn write_map(slots: &mut [u64], scalars: &mut [u64], i: usize, s: MapStore)
     slots::write_scalars(scalars, i, y);
 }
 
+// The record after a change that took `more` cells.
+fn grown(heap: Heap, account: Account, t: Top, more: u64) -> Heap
+    requires { ⌜ heap .taken + more ≤ 1048576 ⌝ }
+    ensures { λ r. ⌜ r ≡ withRegions heap account (t .cells) (t .entries) (heap .taken + more) ⌝ }
+{
+    let mut g = heap;
+    g.account = account;
+    g.top = t.cells;
+    g.entries = t.entries;
+    g.taken = heap.taken + more;
+    g
+}
+
+// The region of slot i made `size` cells long, not shorter than it is; the record afterwards, with this account.
+fn longer(
+    heap: Heap,
+    slots: &mut [u64],
+    scalars: &[u64],
+    list: &[u64],
+    directory: &mut [u64],
+    cells: &mut [u64],
+    i: usize,
+    size: u64,
+    account: Account,
+) -> Heap
+    requires good { ⌜ Good (state heap (now slots) (now scalars) (now list) (now directory) (now cells)) ⌝ }
+    requires room { ⌜ Lengthening (state heap (now slots) (now scalars) (now list) (now directory) (now cells)) i size ⌝ }
+    ensures { λ r. ⌜ Lengthened (state heap (now (slots .entry)) (now (scalars .entry)) (now (list .entry)) (now (directory .entry)) (now (cells .entry))) i size account r (now (slots .exit)) (now (directory .exit)) (now (cells .exit)) ⌝ }
+{
+    let h = slots::read_header(slots, i);
+    let t = Top {
+        cells: heap.top,
+        entries: heap.entries,
+    };
+    if size <= h.size {
+        return grown(heap, account, t, 0);
+    }
+    let q = cells::grow(
+        slots,
+        heap.fresh,
+        directory,
+        heap.size * 2,
+        t,
+        cells,
+        i,
+        size,
+    );
+    grown(heap, account, q, size - h.size)
+}
+
+// The capacity of an array after a push, and the bytes that it is charged.
+fn push_size(len: u64, size: u64) -> u64
+    requires { ⌜ size ≤ 1048576 ⌝ }
+    ensures { λ r. ⌜ r ≡ pushSize len size ⌝ }
+{
+    if len == size {
+        if size < 2 {
+            return 4;
+        }
+        return 2 * size;
+    }
+    size
+}
+
+fn push_bytes(len: u64, size: u64) -> u64
+    requires { ⌜ size ≤ 1048576 ⌝ }
+    ensures { λ r. ⌜ r ≡ pushBytes len size ⌝ }
+{
+    if len == size {
+        if size < 4 {
+            return 32;
+        }
+        return 8 * size;
+    }
+    0
+}
+
+// An item behind the last of the array in slot i.
+fn append(slots: &mut [u64], cells: &mut [u64], i: usize, v: u64)
+    requires { ⌜ Appending (now slots) (now cells) i ⌝ }
+    ensures { λ r. ⌜ Appended (now (slots .entry)) (now (cells .entry)) (now (slots .exit)) (now (cells .exit)) i v ⌝ }
+{
+    let h = slots::read_header(slots, i);
+    let at = (h.start + h.len) as usize;
+    cells[at] = v;
+    slots::set_len(slots, i, h.len + 1);
+}
+
 // The value of a map's entry, set in the map's cells.
 fn set_value_in(cells: &mut [u64], h: Header, s: MapStore, pos: usize, v: u64)
     requires inside { ⌜ h .start + h .size ≤ length (now cells) ⌝ }
@@ -221,6 +315,131 @@ fn set_value_in(cells: &mut [u64], h: Header, s: MapStore, pos: usize, v: u64)
     let from = h.start as usize;
     let to = from + h.size as usize;
     map_store::set_value(s, &mut cells[from..to], pos, v);
+}
+
+// An entry added in the map's cells, where there is room for it.
+fn insert_in(
+    cells: &mut [u64],
+    h: Header,
+    s: MapStore,
+    traced: bool,
+    hash: u64,
+    key: u64,
+    value: u64,
+) -> MapStore
+    requires { ⌜ Inserting (now cells) h s traced key ⌝ }
+    ensures { λ r. ⌜ InRegion (Maps.inserted traced hash key value) (roomAfter traced key s (regionOf h (now (cells .entry)))) h s (now (cells .entry)) r (now (cells .exit)) ⌝ }
+{
+    let from = h.start as usize;
+    let to = from + h.size as usize;
+    map_store::insert(s, &mut cells[from..to], traced, hash, key, value)
+}
+
+// An entry removed in the map's cells, where there is room for the index.
+fn remove_in(cells: &mut [u64], h: Header, s: MapStore, pos: usize) -> MapStore
+    requires { ⌜ Removing (now cells) h s ⌝ }
+    ensures { λ r. ⌜ InRegion (Maps.removedAt pos) (roomWithout s (regionOf h (now (cells .entry)))) h s (now (cells .entry)) r (now (cells .exit)) ⌝ }
+{
+    let from = h.start as usize;
+    let to = from + h.size as usize;
+    map_store::remove(s, &mut cells[from..to], pos)
+}
+
+// An entry added to the map in slot i, whatever is there: 9, 5, 7.
+fn insert_at(
+    heap: Heap,
+    slots: &mut [u64],
+    scalars: &mut [u64],
+    list: &[u64],
+    directory: &mut [u64],
+    cells: &mut [u64],
+    i: usize,
+    hash: u64,
+    key: u64,
+    value: u64,
+) -> Settled
+    requires good { ⌜ Good (state heap (now slots) (now scalars) (now list) (now directory) (now cells)) ⌝ }
+    requires map { ⌜ IsMap (state heap (now slots) (now scalars) (now list) (now directory) (now cells)) i ⌝ }
+    ensures { λ r. ⌜ Inserts (state heap (now (slots .entry)) (now (scalars .entry)) (now (list .entry)) (now (directory .entry)) (now (cells .entry))) i hash key value (doneIs (r .done)) (state (r .heap) (now (slots .exit)) (now (scalars .exit)) (now (list .entry)) (now (directory .exit)) (now (cells .exit))) ⌝ }
+{
+    let h = slots::read_header(slots, i);
+    let x = slots::read_scalars(scalars, i);
+    let s = map_of(h, x);
+    if 4294967296 <= s.fresh {
+        return Settled {
+            heap,
+            done: Done::Refused(Refusal::Spent),
+        };
+    }
+    let t = traced(x.a);
+    let weights = heap.weights;
+    let bytes = map_store::growth_bytes(s, region(cells, h), weights.entry, t, key);
+    let account = heap.account;
+    match account.charge(bytes) {
+        Charged::Refused => Settled {
+            heap,
+            done: Done::Refused(Refusal::OverBudget),
+        },
+        Charged::Next(next) => {
+            let size = map_store::cells_after_insert(s, region(cells, h), t, key) as u64;
+            if (cells.len() as u64) - heap.taken < size - h.size {
+                return Settled {
+                    heap,
+                    done: Done::Refused(Refusal::NoCells),
+                };
+            }
+            let g = longer(heap, slots, scalars, list, directory, cells, i, size, next);
+            let n = insert_in(cells, slots::read_header(slots, i), s, t, hash, key, value);
+            write_map(slots, scalars, i, n);
+            Settled {
+                heap: g,
+                done: Done::Accepted,
+            }
+        }
+    }
+}
+
+// The entry at a position of the map in slot i removed: 7, where the map becomes hashed.
+fn remove_place(
+    heap: Heap,
+    slots: &mut [u64],
+    scalars: &mut [u64],
+    list: &[u64],
+    directory: &mut [u64],
+    cells: &mut [u64],
+    i: usize,
+    pos: usize,
+) -> Settled
+    requires good { ⌜ Good (state heap (now slots) (now scalars) (now list) (now directory) (now cells)) ⌝ }
+    requires map { ⌜ IsMap (state heap (now slots) (now scalars) (now list) (now directory) (now cells)) i ⌝ }
+    ensures { λ r. ⌜ Removes (state heap (now (slots .entry)) (now (scalars .entry)) (now (list .entry)) (now (directory .entry)) (now (cells .entry))) i pos (doneIs (r .done)) (state (r .heap) (now (slots .exit)) (now (scalars .exit)) (now (list .entry)) (now (directory .exit)) (now (cells .exit))) ⌝ }
+{
+    let h = slots::read_header(slots, i);
+    let s = map_of(h, slots::read_scalars(scalars, i));
+    let size = map_store::cells_after_remove(s, region(cells, h)) as u64;
+    if (cells.len() as u64) - heap.taken < size - h.size {
+        return Settled {
+            heap,
+            done: Done::Refused(Refusal::NoCells),
+        };
+    }
+    let g = longer(
+        heap,
+        slots,
+        scalars,
+        list,
+        directory,
+        cells,
+        i,
+        size,
+        heap.account,
+    );
+    let n = remove_in(cells, slots::read_header(slots, i), s, pos);
+    write_map(slots, scalars, i, n);
+    Settled {
+        heap: g,
+        done: Done::Accepted,
+    }
 }
 
 // The step of an iterator that has come to its end.
@@ -908,6 +1127,222 @@ pub fn iter_next(
             match item {
                 Visited::End => Perhaps::Absent,
                 Visited::Item(n) => Perhaps::Is(n),
+            }
+        }
+    }
+}
+
+// An item behind the last of an array.
+pub fn push(
+    heap: Heap,
+    slots: &mut [u64],
+    scalars: &[u64],
+    list: &[u64],
+    directory: &mut [u64],
+    cells: &mut [u64],
+    w: u64,
+    v: u64,
+) -> Settled
+    requires { ⌜ Good (state heap (now slots) (now scalars) (now list) (now directory) (now cells)) ⌝ }
+    ensures { λ r. ⌜ Performs (Calls.push w v) (state heap (now (slots .entry)) (now (scalars .entry)) (now (list .entry)) (now (directory .entry)) (now (cells .entry))) (doneIs (r .done)) (state (r .heap) (now (slots .exit)) (now (scalars .entry)) (now (list .entry)) (now (directory .exit)) (now (cells .exit))) ⌝ }
+{
+    match heap::locate(slots, heap.fresh, w, ARRAY) {
+        Located::Refused(q) => Settled {
+            heap,
+            done: Done::Refused(q),
+        },
+        Located::At(i) => {
+            let h = slots::read_header(slots, i);
+            let size = push_size(h.len, h.size);
+            let account = heap.account;
+            match account.charge(push_bytes(h.len, h.size)) {
+                Charged::Refused => Settled {
+                    heap,
+                    done: Done::Refused(Refusal::OverBudget),
+                },
+                Charged::Next(next) => {
+                    if (cells.len() as u64) - heap.taken < size - h.size {
+                        return Settled {
+                            heap,
+                            done: Done::Refused(Refusal::NoCells),
+                        };
+                    }
+                    let x = item(heap, slots, scalars, list, directory, cells, h.mode, v);
+                    let g = longer(heap, slots, scalars, list, directory, cells, i, size, next);
+                    append(slots, cells, i, x);
+                    Settled {
+                        heap: g,
+                        done: Done::Accepted,
+                    }
+                }
+            }
+        }
+    }
+}
+
+// An entry added to a map, whatever is there.
+pub fn insert_entry(
+    heap: Heap,
+    slots: &mut [u64],
+    scalars: &mut [u64],
+    list: &[u64],
+    directory: &mut [u64],
+    cells: &mut [u64],
+    w: u64,
+    hash: u64,
+    key: u64,
+    value: u64,
+) -> Settled
+    requires { ⌜ Good (state heap (now slots) (now scalars) (now list) (now directory) (now cells)) ⌝ }
+    ensures { λ r. ⌜ Performs (Calls.insert-entry w hash key value) (state heap (now (slots .entry)) (now (scalars .entry)) (now (list .entry)) (now (directory .entry)) (now (cells .entry))) (doneIs (r .done)) (state (r .heap) (now (slots .exit)) (now (scalars .exit)) (now (list .entry)) (now (directory .exit)) (now (cells .exit))) ⌝ }
+{
+    match heap::locate(slots, heap.fresh, w, MAP) {
+        Located::Refused(q) => Settled {
+            heap,
+            done: Done::Refused(q),
+        },
+        Located::At(i) => insert_at(
+            heap,
+            slots,
+            scalars,
+            list,
+            directory,
+            cells,
+            i,
+            hash,
+            key,
+            value,
+        ),
+    }
+}
+
+// The value of a key: overwritten where the key is found, else an entry is added.
+pub fn put(
+    heap: Heap,
+    slots: &mut [u64],
+    scalars: &mut [u64],
+    list: &[u64],
+    directory: &mut [u64],
+    cells: &mut [u64],
+    w: u64,
+    hash: u64,
+    key: u64,
+    value: u64,
+) -> Settled
+    requires { ⌜ Good (state heap (now slots) (now scalars) (now list) (now directory) (now cells)) ⌝ }
+    ensures { λ r. ⌜ Performs (Calls.put w hash key value) (state heap (now (slots .entry)) (now (scalars .entry)) (now (list .entry)) (now (directory .entry)) (now (cells .entry))) (doneIs (r .done)) (state (r .heap) (now (slots .exit)) (now (scalars .exit)) (now (list .entry)) (now (directory .exit)) (now (cells .exit))) ⌝ }
+{
+    match heap::locate(slots, heap.fresh, w, MAP) {
+        Located::Refused(q) => Settled {
+            heap,
+            done: Done::Refused(q),
+        },
+        Located::At(i) => {
+            let h = slots::read_header(slots, i);
+            let x = slots::read_scalars(scalars, i);
+            let s = map_of(h, x);
+            match map_store::find(s, region(cells, h), traced(x.a), hash, key) {
+                map_store::Found::Nothing => insert_at(
+                    heap,
+                    slots,
+                    scalars,
+                    list,
+                    directory,
+                    cells,
+                    i,
+                    hash,
+                    key,
+                    value,
+                ),
+                map_store::Found::At(pos) => {
+                    let account = heap.account;
+                    if !zero_fits(account) {
+                        return Settled {
+                            heap,
+                            done: Done::Refused(Refusal::OverBudget),
+                        };
+                    }
+                    set_value_in(cells, h, s, pos, value);
+                    Settled {
+                        heap,
+                        done: Done::Accepted,
+                    }
+                }
+            }
+        }
+    }
+}
+
+// The entry at a position removed. A packed map becomes hashed, also where no live entry is there.
+pub fn remove_at(
+    heap: Heap,
+    slots: &mut [u64],
+    scalars: &mut [u64],
+    list: &[u64],
+    directory: &mut [u64],
+    cells: &mut [u64],
+    w: u64,
+    pos: u64,
+) -> Settled
+    requires { ⌜ Good (state heap (now slots) (now scalars) (now list) (now directory) (now cells)) ⌝ }
+    ensures { λ r. ⌜ Performs (Calls.remove-at w pos) (state heap (now (slots .entry)) (now (scalars .entry)) (now (list .entry)) (now (directory .entry)) (now (cells .entry))) (doneIs (r .done)) (state (r .heap) (now (slots .exit)) (now (scalars .exit)) (now (list .entry)) (now (directory .exit)) (now (cells .exit))) ⌝ }
+{
+    match heap::locate(slots, heap.fresh, w, MAP) {
+        Located::Refused(q) => Settled {
+            heap,
+            done: Done::Refused(q),
+        },
+        Located::At(i) => remove_place(
+            heap,
+            slots,
+            scalars,
+            list,
+            directory,
+            cells,
+            i,
+            pos as usize,
+        ),
+    }
+}
+
+// The entry of a key removed; an absent key's removal changes nothing.
+pub fn remove(
+    heap: Heap,
+    slots: &mut [u64],
+    scalars: &mut [u64],
+    list: &[u64],
+    directory: &mut [u64],
+    cells: &mut [u64],
+    w: u64,
+    hash: u64,
+    key: u64,
+) -> Settled
+    requires { ⌜ Good (state heap (now slots) (now scalars) (now list) (now directory) (now cells)) ⌝ }
+    ensures { λ r. ⌜ Performs (Calls.remove w hash key) (state heap (now (slots .entry)) (now (scalars .entry)) (now (list .entry)) (now (directory .entry)) (now (cells .entry))) (doneIs (r .done)) (state (r .heap) (now (slots .exit)) (now (scalars .exit)) (now (list .entry)) (now (directory .exit)) (now (cells .exit))) ⌝ }
+{
+    match heap::locate(slots, heap.fresh, w, MAP) {
+        Located::Refused(q) => Settled {
+            heap,
+            done: Done::Refused(q),
+        },
+        Located::At(i) => {
+            let h = slots::read_header(slots, i);
+            let x = slots::read_scalars(scalars, i);
+            match map_store::find(map_of(h, x), region(cells, h), traced(x.a), hash, key) {
+                map_store::Found::Nothing => Settled {
+                    heap,
+                    done: Done::Accepted,
+                },
+                map_store::Found::At(pos) => remove_place(
+                    heap,
+                    slots,
+                    scalars,
+                    list,
+                    directory,
+                    cells,
+                    i,
+                    pos,
+                ),
             }
         }
     }

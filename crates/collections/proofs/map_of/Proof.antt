@@ -1,7 +1,6 @@
 -- `collections::map_of` meets its contract. Assumes nothing.
 use mir.Syntax.{w64}
 use mir.Facts.{toZ-ofZ}
-use mathlib.Core.Path.{_∙_}
 use borrow.Author.Needs.{needs}
 use Rattle.collections.proofs.map_of.Statement.{statement}
 use Rattle.collections.proofs.map_of.Tie as tie

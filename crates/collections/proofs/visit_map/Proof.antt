@@ -1,5 +1,4 @@
 -- `collections::visit_map` meets its contract. Assumes nothing.
-use mathlib.Core.Path.{refl}
 use Rattle.collections.proofs.VisitLaws.{map-ends, map-inside, map-visits}
 use Rattle.heap.specs.State.{state}
 use borrow.Author.Needs.{needs}

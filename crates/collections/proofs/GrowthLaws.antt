@@ -1,0 +1,89 @@
+-- A region that is made longer, and an item written behind the last of an array. Assumes nothing.
+use Prim.Native.Nat.{ℕ, _+_, _*_, _-_, _≤_, _<_}
+use mathlib.Core.Path.{_≡_, refl, ap, _∙_}
+use mathlib.Core.List.{List}
+use native.Mathlib.Omega.{arith}
+use lib.ListN.{length, set}
+use lib.Seq.{take-take}
+use Rattle.account.specs.declared.Account.{Account}
+use Rattle.slots.specs.Header.{headerAt, withRegion}
+use Rattle.slots.specs.declared.Header.{Header}
+use Rattle.cells.specs.Regions.{Grown, Growing, sizesOf}
+use Rattle.cells.specs.declared.Top.{Top}
+use Rattle.heap.specs.declared.Heap.{Heap}
+use Rattle.heap.specs.State.{State, withRegions}
+use Rattle.heap.specs.Good.{Good}
+use Rattle.heap.proofs.StepLaws.{touched-account, touched-grown}
+use Rattle.heap.proofs.TouchLaws.{Touched, touched-none}
+use Rattle.collections.specs.Growth.{Appended, Appending, Lengthened, Lengthening, topOf}
+
+-- ---- what a longer region asks
+
+module _ {t : State} {i size : ℕ} (g : Good t) (w : Lengthening t i size) where
+  pub lengthening : Growing (t .heap .fresh) i size (topOf (t .heap)) (t .slots) (t .directory) (t .cells)
+  lengthening = record { laid = g .laid; within = w .within; more = w .more }
+
+  pub grow-asks : Growing (t .heap .fresh) i size (topOf (t .heap)) (t .slots) (t .directory) (t .cells) × (sizesOf (t .slots) (t .heap .fresh) + size ≤ length (t .cells) + headerAt (t .slots) i .size)
+      × (t .heap .fresh < t .heap .size * 2) × (t .heap .size * 2 ≤ length (t .directory)) × (t .heap .size * 2 ≤ 131072)
+  grow-asks = (
+    lengthening,
+    omega (arith, w .fits, g .taken),
+    omega (arith, g .fresh, g .some-slot),
+    g .directory-fit,
+    omega (arith, g .slots-max),
+  )
+
+  pub slot-header-fits : (i < 65536) × (i * 8 + 8 ≤ length (t .slots))
+  slot-header-fits = (omega (arith, w .within, g .fresh, g .slots-max), omega (arith, w .within, g .fresh, g .slots-fit))
+
+  pub taken-fits : {h : Header} → h ≡ headerAt (t .slots) i → t .heap .taken + (size - h .size) ≤ 1048576
+  taken-fits e = rw e (omega (arith, w .fits, w .more, g .laid .cells-max))
+
+  pub taken-none : t .heap .taken + 0 ≤ 1048576
+  taken-none = omega (arith, g .cells-fit, g .laid .cells-max)
+
+  -- ---- the region as long as it was
+
+  same-header : (h : Header) → h .size ≡ size → h ≡ withRegion h size (h .start) (h .entry)
+  same-header h e = ap (λ (n : ℕ). withRegion h n (h .start) (h .entry)) e
+
+  same-grown : headerAt (t .slots) i .size ≡ size → Grown (t .heap .fresh) i size (topOf (t .heap)) (t .slots) (t .directory) (t .cells) (t .slots) (t .directory) (t .cells)
+  same-grown e = record {
+    laid = g .laid;
+    header = same-header (headerAt (t .slots) i) e;
+    front = take-take (headerAt (t .slots) i .size) (headerAt (t .slots) i .size) _ (omega arith);
+    others = λ j l n. refl;
+    slots-len = refl;
+    dir-len = refl;
+    cells-len = refl;
+  }
+
+  pub stays-long : {a : Account} {r : Heap} {h : Header} → h ≡ headerAt (t .slots) i → size ≤ h .size → r ≡ withRegions (t .heap) a (t .heap .top) (t .heap .entries) (t .heap .taken + 0) →
+      Lengthened t i size a r (t .slots) (t .directory) (t .cells)
+  stays-long {a} {r} e l er =
+      let s : headerAt (t .slots) i .size ≡ size = omega (arith, w .more, (rw e at l)) in
+      let z : size - headerAt (t .slots) i .size ≡ 0 = omega arith in
+      rw er record { heap = rw z; grown = same-grown s }
+
+  pub made-longer : {a : Account} {r : Heap} {h : Header} {q : Top} {s′ dir′ c′ : List ℕ} → h ≡ headerAt (t .slots) i → Grown (t .heap .fresh) i size q (t .slots) (t .directory) (t .cells) s′ dir′ c′ →
+      r ≡ withRegions (t .heap) a (q .cells) (q .entries) (t .heap .taken + (size - h .size)) → Lengthened t i size a r s′ dir′ c′
+  made-longer e w er = rw er record { heap = rw e; grown = w }
+
+  -- ---- the state with the longer region
+
+  pub lengthened-touched : {a : Account} {r : Heap} {s′ dir′ c′ : List ℕ} → Lengthened t i size a r s′ dir′ c′ →
+      Touched t record { heap = withRegions (t .heap) a (r .top) (r .entries) (t .heap .taken + (size - headerAt (t .slots) i .size)); slots = s′; scalars = t .scalars; list = t .list; directory = dir′; cells = c′ } i
+  lengthened-touched {a} u =
+      touched-grown (touched-account (touched-none i g) a) {taken = t .heap .taken + (size - headerAt (t .slots) i .size)} (u .grown) (omega (arith, w .more)) (omega (arith, w .more, w .fits))
+
+-- ---- an item behind the last
+
+module _ {s c : List ℕ} {i : ℕ} {h : Header} (a : Appending s c i) (e : h ≡ headerAt s i) where
+  pub append-fits : (h .start + h .len < length c) × (h .start + h .len < 1048576)
+  append-fits = rw e (omega (arith, a .room, a .inside), omega (arith, a .room, a .inside, a .cells-max))
+
+  pub append-len-fits : h .len < 1048576
+  append-len-fits = rw e (omega (arith, a .room, a .inside, a .cells-max))
+
+  pub appended : {s′ c′ : List ℕ} {v : ℕ} → s′ ≡ set s (i * 8 + 4) (h .len + 1) → c′ ≡ set c (h .start + h .len) v → Appended s c s′ c′ i v
+  appended p q = record { len = p ∙ rw e; item = q ∙ rw e }
