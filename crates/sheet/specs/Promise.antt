@@ -1,0 +1,68 @@
+-- What the functions promise, from the heap's state and the roots before to those after.
+use Prim.Native.Nat.{ℕ, _+_, _*_, _≤_, _<_}
+use mathlib.Core.Path.{_≡_}
+use mathlib.Core.Bool.{cond}
+use mathlib.Core.List.{List, [], _∷_, _++_}
+use lib.Dec.{leb}
+use lib.ListN.{length, getD, take, drop}
+use Rattle.layout.specs.Layout.{Layout}
+use Rattle.layout.specs.Sections.{Tabled}
+use Rattle.history.proofs.Lift.{Seen, seen}
+use Rattle.text.specs.Puts.{Puts}
+use Rattle.model.specs.Calls.{Call}
+use Rattle.model.specs.Step.{step}
+use Rattle.model.specs.Callsheet.{Sheet, answerWord, commanded}
+use Rattle.heap.specs.declared.Heap.{Heap}
+use Rattle.heap.specs.State.{State, modelOf}
+use Rattle.heap.specs.Good.{Good, Rested}
+use Rattle.sheet.specs.declared.Shown.{Shown}
+use Rattle.sheet.specs.Turns.{textFrom, turnOf}
+
+-- the sheet that the heap's state and the roots hold
+abbrev pub sheetOf : Layout → State → List ℕ → Sheet
+sheetOf l t roots = record { heap = modelOf l t; roots = roots }
+
+-- what a line shows of a call
+abbrev pub shownOf : Heap → Seen → Shown
+shownOf h o = record { heap = h; word = answerWord (o .answer); refusal = o .refusal }
+
+-- the call k was made on the state b, left the state a, and r is shown of it
+pub record Shows (l : Layout) (k : Call) (b : State) (r : Shown) (a : State) : Type 0 where
+  pub shown : r ≡ shownOf (a .heap) (seen (step (modelOf l b) k))
+  pub next : modelOf l a ≡ (step (modelOf l b) k) .next
+  pub good : Good a
+
+-- "0B root (word; a 65th gives 4)"
+pub record Roots (before : List ℕ) (count w : ℕ) (after : List ℕ) (r : ℕ) : Type 0 where
+  pub roots : take r after ≡ cond (leb 64 count) (take count before) (take count before ++ (w ∷ []))
+  pub few : r ≤ 64
+
+-- what the calls ask of the heap and of the memory lent with it, between commands
+pub record Ready (t : State) (marks order layout table : List ℕ) : Type 0 where
+  pub good : Good t
+  pub rested : Rested (t .heap .size) marks order
+  pub tabled : Tabled layout table
+
+-- room for 64 roots
+pub record Rooted (roots : List ℕ) (count : ℕ) : Type 0 where
+  pub room : 64 ≤ length roots
+  pub few : count ≤ 64
+
+-- the command c with the bytes behind it: its line is put into out, and a is the sheet afterwards
+pub record Commands (s : Sheet) (c : ℕ) (bs out : List ℕ) (end : ℕ) (a : Sheet) (out′ : List ℕ) (end′ : ℕ) : Type 0 where
+  pub text : Puts ((commanded s c bs) .text) out end out′ end′
+  pub next : (commanded s c bs) .next ≡ a
+
+-- the command at a place, or what stands for it: its line is put into out, the next command stands at at′, and a is the sheet afterwards
+pub record Turns (s : Sheet) (input : List ℕ) (at : ℕ) (out : List ℕ) (end : ℕ) (a : Sheet) (at′ : ℕ) (out′ : List ℕ) (end′ : ℕ) : Type 0 where
+  pub text : Puts ((turnOf s (getD input at 0) (drop (at + 1) input)) .text) out end out′ end′
+  pub next : (turnOf s (getD input at 0) (drop (at + 1) input)) .next ≡ a
+  pub rest : (turnOf s (getD input at 0) (drop (at + 1) input)) .rest ≡ drop at′ input
+  pub onward : at < at′
+  pub within : at′ ≤ length input
+
+-- the text of all commands is put into out, up to r
+pub record Prints (t out : List ℕ) (r : ℕ) : Type 0 where
+  pub text : take r out ≡ t
+  pub ends : r ≡ length (take r out)
+  pub within : r ≤ length out
