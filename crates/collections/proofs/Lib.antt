@@ -13,3 +13,4 @@ pub mod PushLaws
 pub mod ChangeLaws
 pub mod InsertLaws
 pub mod RemoveLaws
+pub mod BeginLaws

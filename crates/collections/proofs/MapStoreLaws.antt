@@ -1,5 +1,5 @@
 -- A map that is changed in its slot. Assumes nothing.
-use Prim.Native.Nat.{ℕ, _+_, _*_, _/_, _<_}
+use Prim.Native.Nat.{ℕ, _+_, _*_, _/_, _≤_, _<_}
 use mathlib.Core.Path.{_≡_, refl, ap, sym, _∙_}
 use mathlib.Core.Bool.{Bool, true, false}
 use mathlib.Core.List.{List, []}
@@ -38,11 +38,11 @@ use Rattle.heap.proofs.TouchLaws.{Touched, touched-none}
 use Rattle.collections.specs.Words.{MapWritten, flagOf, mapFrom, mapScalars}
 use Rattle.collections.proofs.MapLaws.{MapHere, here-good, here-slot, map-size}
 
--- a slot of kind 7 with the tag of a good one
-pub map-slot-good : {r r′ : Raw} {x x′ : Scalars} → SlotGood r x → r′ .half ≡ r .half → r′ .kind ≡ 7 → Map.Good (mapOf r′ x′) (r′ .cells) → r′ .size ≡ r′ .value * 5 + r′ .mode / 2 → x′ .g < 4294967296 → SlotGood r′ x′
-map-slot-good g a k m s u = record {
-  half-low = omega (arith, g .half-low);
-  half-high = omega (arith, g .half-high);
+-- a slot of kind 7
+pub map-slot-good : {r : Raw} {x : Scalars} → 65536 ≤ r .half → r .half < 131072 → r .kind ≡ 7 → Map.Good (mapOf r x) (r .cells) → r .size ≡ r .value * 5 + r .mode / 2 → x .g < 4294967296 → SlotGood r x
+map-slot-good lo hi k m s u = record {
+  half-low = lo;
+  half-high = hi;
   kind = omega arith;
   empty = λ e. absurd (omega (arith, e));
   string = λ e. absurd (omega (arith, e));
@@ -90,7 +90,7 @@ module _ {b m : State} {i : ℕ} {n : MapStore} {s′ x′ c′ : List ℕ} (t :
   kind-is = t .kind ∙ kind
 
   pub changed-good : Map.Good n (regionOf (headerAt (m .slots) i) c′) → rawOf m i .size ≡ n .capacity * 5 + n .index / 2 → SlotGood (rawOf after i) (moreOf after i)
-  changed-good q s = rw (changed-raw, w .words .here) (map-slot-good g (t .half) kind-is (rw (map-back (rawCells (rawOf m i) (regionOf (headerAt (m .slots) i) c′)) (moreOf m i) n w) q) s (w .epoch))
+  changed-good q s = rw (changed-raw, w .words .here) (map-slot-good (omega (arith, t .half, g .half-low)) (omega (arith, t .half, g .half-high)) kind-is (rw (map-back (rawCells (rawOf m i) (regionOf (headerAt (m .slots) i) c′)) (moreOf m i) n w) q) s (w .epoch))
 
   pub changed-content : contentOf (rawOf after i) (moreOf after i) ≡ mapContent (moreOf m i) n (regionOf (headerAt (m .slots) i) c′)
   changed-content =
@@ -125,7 +125,7 @@ module _ {t : State} {w i : ℕ} {h : Header} {x : Scalars} {s : MapStore} {c : 
       let after : Raw = rawCells (rawOf t i) (regionOf (headerAt (t .slots) i) c′) in
       record {
         touched = touched-cells (touched-none i (m .good)) (o .reached .within) (rw (← m .header) own);
-        slot-good = map-slot-good g refl (o .kind-is) (e .good) (g .map (o .kind-is) .1) (g .map (o .kind-is) .2);
+        slot-good = map-slot-good (g .half-low) (g .half-high) (o .kind-is) (e .good) (g .map (o .kind-is) .1) (g .map (o .kind-is) .2);
         content = content-map after (moreOf t i) (o .kind-is) ∙ rw (content-map (rawOf t i) (moreOf t i) (o .kind-is)) (ap (λ (q : Maps.Store). map-object record { keyType = moreOf t i .a; valueType = moreOf t i .b; store = q }) (e .store));
         room = room-map after (o .kind-is) ∙ sym (room-map (rawOf t i) (o .kind-is));
       }

@@ -235,23 +235,23 @@ module _ {t : State} {source : ℕ} {x : Scalars} {f : Found} (g : Good t) (d : 
 
 -- ---- the step of an iterator that is located
 
--- a slot of kind 10 with the tag of a good one
-iterator-good : {r : Raw} {x : Scalars} (x′ : Scalars) → SlotGood r x → r .kind ≡ 10 → x′ .g < 4294967296 → SlotGood r x′
-iterator-good x′ g k u = record {
-  half-low = g .half-low;
-  half-high = g .half-high;
-  kind = g .kind;
-  empty = g .empty;
-  string = g .string;
-  integer = g .integer;
-  cell = g .cell;
-  error = g .error;
-  box = g .box;
-  array = g .array;
+-- a slot of kind 10
+pub iterator-good : {r : Raw} {x : Scalars} → 65536 ≤ r .half → r .half < 131072 → r .kind ≡ 10 → r .size ≡ 0 → x .g < 4294967296 → SlotGood r x
+iterator-good lo hi k s u = record {
+  half-low = lo;
+  half-high = hi;
+  kind = omega arith;
+  empty = λ e. absurd (omega (arith, e));
+  string = λ e. absurd (omega (arith, e));
+  integer = λ e. absurd (omega (arith, e));
+  cell = λ e. absurd (omega (arith, e));
+  error = λ e. absurd (omega (arith, e));
+  box = λ e. absurd (omega (arith, e));
+  array = λ e. absurd (omega (arith, e));
   map = λ e. absurd (omega (arith, e));
-  struct = g .struct;
-  function = g .function;
-  iterator = λ e. (g .iterator k .0, u);
+  struct = λ e. absurd (omega (arith, e));
+  function = λ e. absurd (omega (arith, e));
+  iterator = λ e. (s, u);
   coroutine = λ e. absurd (omega (arith, e));
 }
 
@@ -269,7 +269,7 @@ module _ {t : State} {w i : ℕ} {a : Located} {h : Header} {x : Scalars} (g : G
       let after : moreOf (withScalars t x′) i ≡ r .next = u .here in
       record {
         touched = touched-scalars (touched-none i g) u;
-        slot-good = rw after (iterator-good (r .next) (g .each i (o .reached .within)) (o .kind-is) (v .epoch));
+        slot-good = (let z = g .each i (o .reached .within) in rw after (iterator-good (z .half-low) (z .half-high) (o .kind-is) (z .iterator (o .kind-is) .0) (v .epoch)));
         content =
             rw after
             (content-iterator (rawOf t i) (r .next) (o .kind-is)

@@ -3,3 +3,4 @@ pub mod Words
 pub mod Visits
 pub mod Growth
 pub mod Changes
+pub mod Beginning

@@ -8,7 +8,7 @@ ghost use Rattle.map_store.specs.Map as Map;
 ghost use Rattle.map_store.specs.View.{cursorIs};
 ghost use Rattle.cells.specs.Regions.{regionOf};
 ghost use Rattle.model.specs.Calls as Calls;
-ghost use Rattle.heap.specs.Answers.{doneIs, readingIs, testIs};
+ghost use Rattle.heap.specs.Answers.{doneIs, madeIs, readingIs, testIs};
 ghost use Rattle.heap.specs.Kinds.{cursorOf};
 ghost use Rattle.heap.specs.State.{state, withRegions};
 ghost use Rattle.heap.specs.Good.{Good};
@@ -18,6 +18,7 @@ ghost use Rattle.collections.specs.Answers.{perhapsIs, entrySeen, nextSe
 ghost use Rattle.collections.specs.Words.{WordOf, mapFrom, MapWritten, flagOf, ItemIs, ZeroCharge};
 ghost use Rattle.collections.specs.Growth.{Lengthening, Lengthened, pushSize, pushBytes, Appending, Appended};
 ghost use Rattle.collections.specs.Changes.{Inserting, Removing, InRegion, IsMap, Inserts, Removes, roomAfter, roomWithout};
+ghost use Rattle.collections.specs.Beginning.{Begins};
 ghost use Rattle.collections.specs.Visits.{ArrayKnown, MapKnown, Ends, Moves, VisitsArray, VisitsMap, Visits};
 use account::Account;
 use account::Charged;
@@ -25,6 +26,7 @@ use cells::Top;
 use heap::Done;
 use heap::Heap;
 use heap::Located;
+use heap::Made;
 use heap::Reading;
 use heap::Refusal;
 use heap::Settled;
@@ -1343,6 +1345,135 @@ pub fn remove(
                     i,
                     pos,
                 ),
+            }
+        }
+    }
+}
+
+// A map without entries.
+pub fn new_map(
+    heap: Heap,
+    slots: &mut [u64],
+    scalars: &mut [u64],
+    list: &[u64],
+    directory: &[u64],
+    cells: &[u64],
+    keys: u64,
+    values: u64,
+) -> Made
+    requires { ⌜ Good (state heap (now slots) (now scalars) (now list) (now directory) (now cells)) ⌝ }
+    ensures { λ r. ⌜ Performs (Calls.new-map keys values) (state heap (now (slots .entry)) (now (scalars .entry)) (now (list .entry)) (now (directory .entry)) (now (cells .entry))) (madeIs (r .answer)) (state (r .heap) (now (slots .exit)) (now (scalars .exit)) (now (list .entry)) (now (directory .entry)) (now (cells .entry))) ⌝ }
+{
+    if 2 < keys {
+        return Made {
+            heap,
+            answer: Reading::Refused(Refusal::BadType),
+        };
+    }
+    if 2 < values {
+        return Made {
+            heap,
+            answer: Reading::Refused(Refusal::BadType),
+        };
+    }
+    let weights = heap.weights;
+    let h = allocation::header(MAP, 0, 0, 0, 0);
+    let x = Scalars {
+        a: keys,
+        b: values,
+        c: 0,
+        d: 0,
+        e: 0,
+        f: 0,
+        g: 0,
+        h: 0,
+    };
+    allocation::new_with_scalars(
+        heap,
+        slots,
+        scalars,
+        list,
+        directory,
+        cells,
+        h,
+        x,
+        weights.slot,
+    )
+}
+
+// An iterator before its first item: source, and the type of its keys.
+fn begin_iter(
+    heap: Heap,
+    slots: &mut [u64],
+    scalars: &mut [u64],
+    list: &[u64],
+    directory: &[u64],
+    cells: &[u64],
+    source: u64,
+    keys: u64,
+) -> Made
+    requires { ⌜ Good (state heap (now slots) (now scalars) (now list) (now directory) (now cells)) ⌝ }
+    ensures { λ r. ⌜ Begins (state heap (now (slots .entry)) (now (scalars .entry)) (now (list .entry)) (now (directory .entry)) (now (cells .entry))) source keys (r .answer) (state (r .heap) (now (slots .exit)) (now (scalars .exit)) (now (list .entry)) (now (directory .entry)) (now (cells .entry))) ⌝ }
+{
+    let weights = heap.weights;
+    let h = allocation::header(ITERATOR, source, keys, 0, 0);
+    let x = Scalars {
+        a: 0,
+        b: 0,
+        c: 0,
+        d: 0,
+        e: 0,
+        f: 0,
+        g: 0,
+        h: 0,
+    };
+    allocation::new_with_scalars(
+        heap,
+        slots,
+        scalars,
+        list,
+        directory,
+        cells,
+        h,
+        x,
+        weights.slot + weights.iterator,
+    )
+}
+
+// An iterator over an array or a map.
+pub fn new_iter(
+    heap: Heap,
+    slots: &mut [u64],
+    scalars: &mut [u64],
+    list: &[u64],
+    directory: &[u64],
+    cells: &[u64],
+    source: u64,
+) -> Made
+    requires { ⌜ Good (state heap (now slots) (now scalars) (now list) (now directory) (now cells)) ⌝ }
+    ensures { λ r. ⌜ Performs (Calls.new-iter source) (state heap (now (slots .entry)) (now (scalars .entry)) (now (list .entry)) (now (directory .entry)) (now (cells .entry))) (madeIs (r .answer)) (state (r .heap) (now (slots .exit)) (now (scalars .exit)) (now (list .entry)) (now (directory .entry)) (now (cells .entry))) ⌝ }
+{
+    match slots::find(slots, heap.fresh, source) {
+        Found::Nothing => Made {
+            heap,
+            answer: Reading::Refused(Refusal::ReachesNothing),
+        },
+        Found::Wrong => Made {
+            heap,
+            answer: Reading::Refused(Refusal::OtherKind),
+        },
+        Found::At(j) => {
+            let h = slots::read_header(slots, j);
+            if h.kind == ARRAY {
+                return begin_iter(heap, slots, scalars, list, directory, cells, source, 0);
+            }
+            if h.kind == MAP {
+                let x = slots::read_scalars(scalars, j);
+                return begin_iter(heap, slots, scalars, list, directory, cells, source, x.a);
+            }
+            Made {
+                heap,
+                answer: Reading::Refused(Refusal::OtherKind),
             }
         }
     }
