@@ -54,6 +54,10 @@ use Rattle.heap.proofs.ReadLaws.{object-answered, object-inside, object-outside
 use Rattle.collections.specs.Changes.{IsMap}
 use Rattle.collections.specs.Words.{WordOf, mapFrom}
 use Rattle.collections.proofs.ReadingLaws.{first-word, row-answered, row-flag, row-flag-refused, row-number, row-refused}
+use Rattle.collections.specs.Answers.{lentSeen, perhapsIs, stepSeen}
+use Rattle.collections.specs.declared.Moved.{Moved}
+use Rattle.collections.specs.declared.Moved.the-variants as M
+use Rattle.collections.specs.declared.Perhaps.the-variants as P
 
 -- ---- one number of a map
 
@@ -313,3 +317,18 @@ module _ {t : State} {w : ℕ} {r : Located} {q : Refusal} (g : Good t) (d : Loc
   pub step-refused : {z : Maps.Cursor} → Reads (Calls.next w z) t record { refusal = numberOf q; answer = reply nothing; lent = cursor-at z }
   unfolding terms effect
   step-refused {z} l = object-refused l g (Calls.next w z) {rest = []} d e says-map refl refl
+
+-- ---- the cursor that `next` is lent
+
+module _ {k : Calls.Call} {t : State} (z : Maps.Cursor) (m : Moved) (h : Reads k t (stepSeen z m)) where
+  pub lent-kept : {q : Refusal} → m ≡ M.Refused q → Reads k t (lentSeen z (P.Refused q))
+  unfolding stepSeen lentSeen perhapsIs
+  lent-kept e = rw e at h
+
+  pub lent-ended : (s : Stepped) → m ≡ M.Is s → s .found ≡ F.Nothing → Reads k t (lentSeen (cursorIs (s .cursor)) P.Absent)
+  unfolding stepSeen lentSeen perhapsIs
+  lent-ended s e f = rw f at (rw e at h)
+
+  pub lent-moved : (s : Stepped) {p : ℕ} → m ≡ M.Is s → s .found ≡ F.At p → Reads k t (lentSeen (cursorIs (s .cursor)) (P.Is p))
+  unfolding stepSeen lentSeen perhapsIs
+  lent-moved s e f = rw f at (rw e at h)

@@ -51,3 +51,7 @@ cursorSeen (C.Refused q) = refused q
 unfoldable pub stepSeen : Cursor → Moved → Seen
 stepSeen c (M.Is s) = record { refusal = 0; answer = reply (perhaps (position (s .found))); lent = cursor-at (cursorIs (s .cursor)) }
 stepSeen c (M.Refused q) = record { refusal = numberOf q; answer = reply nothing; lent = cursor-at c }
+
+-- `next`: the answer, with the cursor c in the lent place
+unfoldable pub lentSeen : Cursor → Perhaps → Seen
+lentSeen c r = record { refusal = (perhapsIs r) .refusal; answer = (perhapsIs r) .answer; lent = cursor-at c }

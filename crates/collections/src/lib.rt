@@ -14,7 +14,7 @@ ghost use Rattle.heap.specs.State.{state, withRegions};
 ghost use Rattle.heap.specs.Good.{Good};
 ghost use Rattle.heap.specs.Promise.{Performs, Reads};
 ghost use Rattle.heap.proofs.StepLaws.{OwnCells};
-ghost use Rattle.collections.specs.Answers.{perhapsIs, entrySeen, nextSeen, notedSeen, cursorSeen, stepSeen};
+ghost use Rattle.collections.specs.Answers.{perhapsIs, entrySeen, nextSeen, notedSeen, cursorSeen, lentSeen, stepSeen};
 ghost use Rattle.collections.specs.Words.{WordOf, mapFrom, MapWritten, flagOf, ItemIs, ZeroCharge};
 ghost use Rattle.collections.specs.Growth.{Lengthening, Lengthened, pushSize, pushBytes, Appending, Appended};
 ghost use Rattle.collections.specs.Changes.{Inserting, Removing, InRegion, IsMap, Inserts, Removes, roomAfter, roomWithout};
@@ -84,6 +84,12 @@ pub enum CursorRead {
 pub enum Moved {
     Is(map_store::Stepped),
     Refused(Refusal),
+}
+
+// What a step leaves in a lent cursor, and the answer.
+struct Lent {
+    cursor: Cursor,
+    answer: Perhaps,
 }
 
 // The item that an iterator's step visits, or its end.
@@ -908,6 +914,61 @@ pub fn step_cursor(
             Moved::Is(map_store::step(map_of(h, x), region(cells, h), c))
         }
     }
+}
+
+// The same, with what stands in the cursor afterwards: a refusal leaves it as it was.
+fn step_lent(
+    heap: Heap,
+    slots: &[u64],
+    scalars: &[u64],
+    list: &[u64],
+    directory: &[u64],
+    cells: &[u64],
+    w: u64,
+    c: Cursor,
+) -> Lent
+    requires { ⌜ Good (state heap (now slots) (now scalars) (now list) (now directory) (now cells)) ⌝ }
+    ensures { λ r. ⌜ Reads (Calls.next w (cursorIs c)) (state heap (now (slots .entry)) (now (scalars .entry)) (now (list .entry)) (now (directory .entry)) (now (cells .entry))) (lentSeen (cursorIs (r .cursor)) (r .answer)) ⌝ }
+{
+    match step_cursor(heap, slots, scalars, list, directory, cells, w, c) {
+        Moved::Refused(q) => Lent {
+            cursor: c,
+            answer: Perhaps::Refused(q),
+        },
+        Moved::Is(s) => {
+            let cursor = s.cursor;
+            let found = s.found;
+            match found {
+                map_store::Found::Nothing => Lent {
+                    cursor,
+                    answer: Perhaps::Absent,
+                },
+                map_store::Found::At(pos) => Lent {
+                    cursor,
+                    answer: Perhaps::Is(pos as u64),
+                },
+            }
+        }
+    }
+}
+
+// The thin function: the cursor is lent, and moved to the next live entry.
+pub fn next(
+    heap: Heap,
+    slots: &[u64],
+    scalars: &[u64],
+    list: &[u64],
+    directory: &[u64],
+    cells: &[u64],
+    w: u64,
+    cursor: &mut Cursor,
+) -> Perhaps
+    requires { ⌜ Good (state heap (now slots) (now scalars) (now list) (now directory) (now cells)) ⌝ }
+    ensures { λ r. ⌜ Reads (Calls.next w (cursorIs (now (cursor .entry)))) (state heap (now (slots .entry)) (now (scalars .entry)) (now (list .entry)) (now (directory .entry)) (now (cells .entry))) (lentSeen (cursorIs (now (cursor .exit))) r) ⌝ }
+{
+    let s = step_lent(heap, slots, scalars, list, directory, cells, w, *cursor);
+    *cursor = s.cursor;
+    s.answer
 }
 
 // The word of the array or map that an iterator goes over.
