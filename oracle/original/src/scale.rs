@@ -219,6 +219,9 @@ impl Gen {
 
     fn call(&mut self, present: u64, taken: u64) -> Call {
         if present > 64_000 || taken > 1_000_000 || self.one_in(120_000) { return self.collection(); }
+        // What the driver reads off the originals' Debug form is asked for rarely.
+        if self.one_in(4000) { return Call { code: 0x48 + self.below(5) as u8, a: [self.of(7), 0, 0, 0, 0, 0], ..Call::default() }; }
+        if self.one_in(300_000) { return Call { code: 0x56, ..Call::default() }; }
         match self.below(100) {
             0..=17 => self.make(),
             18..=49 => self.on_map(),
