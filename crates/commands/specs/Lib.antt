@@ -1,2 +1,3 @@
 pub mod Commands
 pub mod Shows
+pub mod Promise

@@ -1,0 +1,4 @@
+pub mod Table
+pub mod FieldLaws
+pub mod TakeLaws
+pub mod ParseLaws
