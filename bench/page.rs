@@ -23,7 +23,7 @@ fn machine() -> String {
 }
 
 fn section(rounds: usize, all: &[Measured]) -> String {
-    let mut s = format!("{BEGIN}\n\n{}, {rounds} rounds. Times are medians in microseconds; the ratio is the median of the rounds' ratios.\n\n", machine());
+    let mut s = format!("{BEGIN}\n\n{}, {rounds} rounds. Times are the thread's processor time, medians in microseconds; the ratio is the median of the rounds' ratios.\n\n", machine());
     s.push_str("![Our time by the original's](benchmarks.svg)\n\n| workload | what is timed | ours | Rust | ratio |\n|---|---|---:|---:|---:|\n");
     for m in all {
         let _ = writeln!(s, "| `{}` | {} | {:.0} | {:.0} | {:.2} |", m.name, m.what, median(m.ours.clone()), median(m.original.clone()), m.ratio());
