@@ -1,15 +1,18 @@
 -- The call that a command makes, by its number. Assumes nothing.
 use Prim.Native.Nat.{ℕ, _%_}
-use mathlib.Core.Path.{_≡_, ap, sym, _∙_}
+use mathlib.Core.Path.{_≡_}
+use mathlib.Core.Bool.{not}
+use mathlib.Core.List.{List}
 use mathlib.Core.Logic.{_≢_}
 use mathlib.Core.Option.{Option, none, some}
+use lib.Dec.{eqb}
 use lib.IntN.{ℤ}
 use Rattle.words.specs.Word.{signedBits}
 use Rattle.history.proofs.Facts.{eqb-no}
 use Rattle.model.specs.Rules.{key, payload, result, signal}
-use Rattle.model.specs.Calls.{Call, charge, insert-entry, iter-next, new-array, new-box, new-cell, new-error, new-integer, new-iter, new-map, note, pop, push, put, remove, remove-at, set-state, set-value, store-box, store-capture, store-cell, store-field, store-item, store-part, store-register}
+use Rattle.model.specs.Calls.{Call, charge, collect, insert-entry, iter-next, new-array, new-box, new-cell, new-error, new-function, new-integer, new-iter, new-map, new-string, new-struct, note, pop, push, put, read-string, remove, remove-at, set-state, set-value, store-box, store-capture, store-cell, store-field, store-item, store-part, store-register}
 use Rattle.commands.specs.declared.Operands.{Operands}
-use Rattle.commands.specs.Commands.{growCall, mapChange, newCall, partStore, storeCall}
+use Rattle.commands.specs.Commands.{growCall, lentCall, mapChange, newCall, newCoroutine, newWithList, partStore, storeCall}
 
 module _ (c : ℕ) (o : Operands) where
   pub new-box-call : c ≡ 0x01 → newCall c o ≡ some (new-box o.a)
@@ -148,3 +151,48 @@ module _ (r n w : ℕ) where
   pub part-none : n ≢ 0 → n ≢ 1 → n ≢ 2 → n ≢ 3 → partStore r n w ≡ none
   unfolding partStore
   part-none h0 h1 h2 h3 = rw (eqb-no n 0 h0, eqb-no n 1 h1, eqb-no n 2 h2, eqb-no n 3 h3)
+
+-- ---- calls with lists
+
+module _ (c : ℕ) (o : Operands) (words frames bytes : List ℕ) where
+  pub new-string-call : c ≡ 0x04 → newWithList c o words frames bytes ≡ some (new-string bytes)
+  unfolding newWithList
+  new-string-call e = rw e
+
+  pub new-struct-call : c ≡ 0x09 → newWithList c o words frames bytes ≡ some (new-struct o.a words)
+  unfolding newWithList
+  new-struct-call e = rw e
+
+  pub new-function-call : c ≡ 0x0A → newWithList c o words frames bytes ≡ some (new-function (not (eqb o.a 0)) o.b words)
+  unfolding newWithList
+  new-function-call e = rw e
+
+  pub new-coroutine-call : c ≡ 0x0E → newWithList c o words frames bytes ≡ some (newCoroutine o words frames)
+  unfolding newWithList
+  new-coroutine-call e = rw e
+
+  pub new-list-none : c ≢ 0x04 → c ≢ 0x09 → c ≢ 0x0A → c ≢ 0x0E → newWithList c o words frames bytes ≡ none
+  unfolding newWithList
+  new-list-none h0 h1 h2 h3 = rw (eqb-no c 0x04 h0, eqb-no c 0x09 h1, eqb-no c 0x0A h2, eqb-no c 0x0E h3)
+
+  -- it is lent neither the bytes nor the places
+  pub new-list-26 : c ≡ 0x26 → newWithList c o words frames bytes ≡ none
+  unfolding newWithList
+  new-list-26 e = rw e
+
+  pub new-list-0F : c ≡ 0x0F → newWithList c o words frames bytes ≡ none
+  unfolding newWithList
+  new-list-0F e = rw e
+
+module _ (c : ℕ) (o : Operands) (words bytes places : List ℕ) where
+  pub collect-call : c ≡ 0x0F → lentCall c o words bytes places ≡ some (collect words places)
+  unfolding lentCall
+  collect-call e = rw e
+
+  pub read-string-call : c ≡ 0x26 → lentCall c o words bytes places ≡ some (read-string o.a bytes)
+  unfolding lentCall
+  read-string-call e = rw e
+
+  pub lent-none : c ≢ 0x0F → c ≢ 0x26 → lentCall c o words bytes places ≡ none
+  unfolding lentCall
+  lent-none h0 h1 = rw (eqb-no c 0x0F h0, eqb-no c 0x26 h1)

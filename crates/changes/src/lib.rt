@@ -1,14 +1,24 @@
-// Every call of a script that changes the heap, by its number.
+// Every call of a script that changes the heap or is lent a list, by its number.
 ghost use mathlib.Core.Path.{_≡_};
+ghost use mathlib.Core.List.{List};
+ghost use mathlib.Core.Option.{some};
+ghost use Prim.Native.Nat.{ℕ};
+ghost use Rattle.layout.specs.Sections.{layoutOf};
 ghost use Rattle.heap.specs.Answers.{doneIs, madeIs, readingIs};
 ghost use Rattle.heap.specs.State.{state};
 ghost use Rattle.heap.specs.Good.{Good};
 ghost use Rattle.collections.specs.Answers.{perhapsIs};
-ghost use Rattle.commands.specs.Commands.{changeCall, growCall, mapChange, newCall, partStore, storeCall};
+ghost use Rattle.collector.specs.Answer.{collectionIs};
+ghost use Rattle.commands.specs.Commands.{changeCall, growCall, lentCall, listCall, mapChange, newCall, newCoroutine, newWithList, partStore, storeCall};
 ghost use Rattle.commands.specs.Promise.{ChangedBy};
+ghost use Rattle.commands.specs.Lists.{CommandedBy, Ready};
 ghost use Rattle.changes.specs.Turns.{turned};
+use allocation::Coroutine;
+use allocation::new_coroutine_flat;
+use allocation::new_function;
 use collections::Perhaps;
 use collections::insert_entry;
+use collector::Collected;
 use commands::Operands;
 use commands::Performed;
 use heap::Done;
@@ -73,6 +83,18 @@ fn perhaps_turn(heap: Heap, a: Perhaps) -> Turn
     ensures { λ r. ⌜ r ≡ turned heap (perhapsIs a) ⌝ }
 {
     let s = commands::perhaps(a);
+    Turn {
+        heap,
+        performed: Performed::Known(s),
+    }
+}
+
+fn collected_turn(m: Collected) -> Turn
+    ensures { λ r. ⌜ ((places : List ℕ) → r ≡ turned (m .heap) (collectionIs (m .answer) places)) ⌝ }
+{
+    let heap = m.heap;
+    let a = m.answer;
+    let s = commands::collected(a);
     Turn {
         heap,
         performed: Performed::Known(s),
@@ -353,4 +375,208 @@ pub fn change_call(
     }
     let m = g.heap;
     map_change(m, slots, scalars, list, directory, cells, code, o)
+}
+
+// ---- calls with lists
+
+// A coroutine with its registers and frames.
+fn coroutine_turn(
+    heap: Heap,
+    slots: &mut [u64],
+    scalars: &mut [u64],
+    list: &[u64],
+    directory: &mut [u64],
+    cells: &mut [u64],
+    o: Operands,
+    words: &[u64],
+    frames: &[u64],
+) -> Turn
+    requires { ⌜ Good (state heap (now slots) (now scalars) (now list) (now directory) (now cells)) ⌝ }
+    ensures { λ r. ⌜ ChangedBy (state heap (now (slots .entry)) (now (scalars .entry)) (now (list .entry)) (now (directory .entry)) (now (cells .entry))) (some (newCoroutine o (now (words .entry)) (now (frames .entry)))) (r .performed) (state (r .heap) (now (slots .exit)) (now (scalars .exit)) (now (list .entry)) (now (directory .exit)) (now (cells .exit))) ⌝ }
+{
+    let k = Coroutine {
+        state: o.a,
+        sequence: o.b,
+        payload: o.c,
+        key: o.d,
+        result: o.e,
+        signal: o.f,
+    };
+    let r = new_coroutine_flat(
+        heap,
+        slots,
+        scalars,
+        list,
+        directory,
+        cells,
+        k,
+        words,
+        frames,
+    );
+    made_turn(r)
+}
+
+// New objects whose contents are lists.
+fn new_with_list(
+    heap: Heap,
+    slots: &mut [u64],
+    scalars: &mut [u64],
+    list: &[u64],
+    directory: &mut [u64],
+    cells: &mut [u64],
+    code: u64,
+    o: Operands,
+    words: &[u64],
+    frames: &[u64],
+    bytes: &[u8],
+) -> Turn
+    requires { ⌜ Good (state heap (now slots) (now scalars) (now list) (now directory) (now cells)) ⌝ }
+    ensures { λ r. ⌜ ChangedBy (state heap (now (slots .entry)) (now (scalars .entry)) (now (list .entry)) (now (directory .entry)) (now (cells .entry))) (newWithList code o (now (words .entry)) (now (frames .entry)) (now (bytes .entry))) (r .performed) (state (r .heap) (now (slots .exit)) (now (scalars .exit)) (now (list .entry)) (now (directory .exit)) (now (cells .exit))) ⌝ }
+{
+    let a = o.a;
+    let b = o.b;
+    let imp = a != 0;
+    match code {
+        0x04 => {
+            let r = allocation::new_string(heap, slots, scalars, list, directory, cells, bytes);
+            made_turn(r)
+        }
+        0x09 => {
+            let r = allocation::new_struct(heap, slots, scalars, list, directory, cells, a, words);
+            made_turn(r)
+        }
+        0x0A => {
+            let r = new_function(heap, slots, scalars, list, directory, cells, imp, b, words);
+            made_turn(r)
+        }
+        0x0E => coroutine_turn(
+            heap,
+            slots,
+            scalars,
+            list,
+            directory,
+            cells,
+            o,
+            words,
+            frames,
+        ),
+        _ => Turn {
+            heap,
+            performed: Performed::Unknown,
+        },
+    }
+}
+
+// A collection, and a string read into the bytes.
+fn lent_call(
+    heap: Heap,
+    slots: &mut [u64],
+    scalars: &mut [u64],
+    list: &mut [u64],
+    directory: &[u64],
+    cells: &[u64],
+    marks: &mut [u8],
+    order: &mut [u32],
+    layout: &[u8],
+    table: &[u64],
+    code: u64,
+    o: Operands,
+    words: &[u64],
+    bytes: &mut [u8],
+    places: &mut [u64],
+) -> Turn
+    requires { ⌜ Ready (state heap (now slots) (now scalars) (now list) (now directory) (now cells)) (now marks) (now order) (now layout) (now table) ⌝ }
+    ensures { λ r. ⌜ CommandedBy (layoutOf (now (layout .entry))) code (state heap (now (slots .entry)) (now (scalars .entry)) (now (list .entry)) (now (directory .entry)) (now (cells .entry))) (now (bytes .entry)) (now (places .entry)) (lentCall code o (now (words .entry)) (now (bytes .entry)) (now (places .entry))) (r .performed) (state (r .heap) (now (slots .exit)) (now (scalars .exit)) (now (list .exit)) (now (directory .entry)) (now (cells .entry))) (now (bytes .exit)) (now (places .exit)) ⌝ }
+    ensures { λ r. ⌜ now (marks .exit) ≡ now (marks .entry) ⌝ }
+    ensures { λ r. ⌜ now (order .exit) ≡ now (order .entry) ⌝ }
+{
+    match code {
+        0x0F => {
+            let k = collector::collect(
+                heap,
+                slots,
+                scalars,
+                list,
+                directory,
+                cells,
+                layout,
+                table,
+                marks,
+                order,
+                words,
+                places,
+            );
+            collected_turn(k)
+        }
+        0x26 => {
+            let r = access::read_string(heap, slots, scalars, list, directory, cells, o.a, bytes);
+            reading_turn(heap, r)
+        }
+        _ => Turn {
+            heap,
+            performed: Performed::Unknown,
+        },
+    }
+}
+
+// Every call with lists.
+pub fn list_call(
+    heap: Heap,
+    slots: &mut [u64],
+    scalars: &mut [u64],
+    list: &mut [u64],
+    directory: &mut [u64],
+    cells: &mut [u64],
+    marks: &mut [u8],
+    order: &mut [u32],
+    layout: &[u8],
+    table: &[u64],
+    code: u64,
+    o: Operands,
+    words: &[u64],
+    frames: &[u64],
+    bytes: &mut [u8],
+    places: &mut [u64],
+) -> Turn
+    requires { ⌜ Ready (state heap (now slots) (now scalars) (now list) (now directory) (now cells)) (now marks) (now order) (now layout) (now table) ⌝ }
+    ensures { λ r. ⌜ CommandedBy (layoutOf (now (layout .entry))) code (state heap (now (slots .entry)) (now (scalars .entry)) (now (list .entry)) (now (directory .entry)) (now (cells .entry))) (now (bytes .entry)) (now (places .entry)) (listCall code o (now (words .entry)) (now (frames .entry)) (now (bytes .entry)) (now (places .entry))) (r .performed) (state (r .heap) (now (slots .exit)) (now (scalars .exit)) (now (list .exit)) (now (directory .exit)) (now (cells .exit))) (now (bytes .exit)) (now (places .exit)) ⌝ }
+    ensures { λ r. ⌜ Ready (state (r .heap) (now (slots .exit)) (now (scalars .exit)) (now (list .exit)) (now (directory .exit)) (now (cells .exit))) (now (marks .exit)) (now (order .exit)) (now (layout .entry)) (now (table .entry)) ⌝ }
+    ensures { λ r. ⌜ now (marks .exit) ≡ now (marks .entry) ⌝ }
+    ensures { λ r. ⌜ now (order .exit) ≡ now (order .entry) ⌝ }
+{
+    let n = new_with_list(
+        heap,
+        slots,
+        scalars,
+        list,
+        directory,
+        cells,
+        code,
+        o,
+        words,
+        frames,
+        bytes,
+    );
+    let p = n.performed;
+    if let Performed::Known(s) = p {
+        return n;
+    }
+    let h = n.heap;
+    lent_call(
+        h,
+        slots,
+        scalars,
+        list,
+        directory,
+        cells,
+        marks,
+        order,
+        layout,
+        table,
+        code,
+        o,
+        words,
+        bytes,
+        places,
+    )
 }

@@ -1,7 +1,7 @@
 use mathlib.Core.Path.{_∙_, refl}
 use mir.Facts.{toZ-ofZ}
 use Rattle.changes.proofs.CommandLaws.{set-state-call, store-box-call, store-capture-call, store-cell-call, store-field-call, store-item-call, store-none, store-part-call, store-register-call}
-use Rattle.changes.proofs.TurnLaws.{turn-known, part-same}
+use Rattle.changes.proofs.TurnLaws.{turn-known, turn-same}
 use Rattle.commands.proofs.PerformedLaws.{changed-unknown}
 use borrow.Author.Needs.{needs}
 use Rattle.changes.proofs.store_call.Statement.{statement}
@@ -146,7 +146,7 @@ same-length-24 : tie.Need-same-length-24
 same-length-24 c = search needs
 
 returns-8 : tie.Need-returns-8
-returns-8 c = part-same (store-part-call _ _ refl (c .before .before .before .before .before .before .match .keys8)) (c .before .before .part-store .ensures)
+returns-8 c = turn-same (store-part-call _ _ refl (c .before .before .before .before .before .before .match .keys8)) (c .before .before .part-store .ensures)
 
 returns-9 : tie.Need-returns-9
 returns-9 c = changed-unknown (store-none _ _ ((c .match .rest .0 .0 .0 .0 .0 .0 .0 .1)) ((c .match .rest .0 .0 .0 .0 .0 .0 .1)) ((c .match .rest .0 .0 .0 .0 .0 .1)) ((c .match .rest .0 .0 .0 .0 .1)) ((c .match .rest .0 .0 .0 .1)) ((c .match .rest .0 .0 .1)) ((c .match .rest .0 .1)) ((c .match .rest .1)))
