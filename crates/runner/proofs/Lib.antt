@@ -1,0 +1,2 @@
+pub mod LendLaws
+pub mod RunLaws
