@@ -5,12 +5,14 @@ use mathlib.Core.Logic.{_≢_}
 use mathlib.Core.Bool.{Bool, true, false, cond}
 use mathlib.Core.List.{List, [], _∷_, _++_}
 use mathlib.Core.Option.{Option, none, some}
+use native.Mathlib.Decide.{ℕ-discrete}
 use native.Mathlib.Omega.{arith}
 use native.Mathlib.Numerals.{add-one}
 use lib.Dec.{eqb}
 use lib.ListN.{length, getD, take, drop, drop-of-length-le, length-append}
 use lib.Seq.{drop-cons, drop-length}
 use Rattle.layout.specs.Layout.{Layout}
+use Rattle.history.proofs.Facts.{eqb-no, eqb-yes}
 use Rattle.history.proofs.Lift.{Seen, seen, seenAll}
 use Rattle.history.proofs.Whole.{demand-3}
 use Rattle.model.specs.Calls.{Call}
@@ -26,10 +28,11 @@ use Rattle.commands.proofs.PerformedLaws.{shown-refusal}
 use Rattle.script.specs.declared.Call as Script
 use Rattle.script.specs.Parse.{Called, calledBy}
 use Rattle.script.specs.Reads.{Reads, calledIs}
+use Rattle.runner.specs.declared.Progress.{Progress}
 use Rattle.runner.specs.declared.Ran.{Ran}
 use Rattle.commands.specs.Lists.{CommandedBy, Ready, known-command, unknown-command}
 use Rattle.runner.specs.Scripts.{Turned, callIn, callsFrom, callsOf, turnOf, turnedBy}
-use Rattle.runner.specs.Runs.{Onward, Runs, ranOf, refusals, refusedOne, turnAt}
+use Rattle.runner.specs.Runs.{Onward, Runs, advancedOf, ranOf, refusals, refusedOne, turnAt}
 
 -- ---- one command
 
@@ -138,19 +141,32 @@ module _ {script : List ℕ} {at : ℕ} {words : List ℕ} {k : Script.Call} (d 
     pub turn-counted : calls ≡ length ((turnAt bytes places script at) .calls)
     turn-counted = makes .counted ∙ ap length same-calls
 
-    pub turn-stops : calls ≡ 0 → Onward (turnAt bytes places script at) script at (length script)
+    turn-stops : calls ≡ 0 → Onward (turnAt bytes places script at) script at (length script)
     turn-stops z = record {
       rest = ap (λ (t : Turned). t .rest) (turn-made known) ∙ turned-none (madeBy script at words k bytes places) (drop (k .next) script) (sym (makes .counted) ∙ z) ∙ sym (drop-length script);
       onward = h;
       within = omega arith;
     }
 
-    pub turn-goes : calls ≢ 0 → Onward (turnAt bytes places script at) script at (k .next)
+    turn-goes : calls ≢ 0 → Onward (turnAt bytes places script at) script at (k .next)
     turn-goes n = record {
       rest = ap (λ (t : Turned). t .rest) (turn-made known) ∙ turned-some (madeBy script at words k bytes places) (drop (k .next) script) (λ z. n (makes .counted ∙ z));
       onward = d .onward;
       within = d .within;
     }
+
+    pub turn-onward : Onward (turnAt bytes places script at) script at (cond (eqb calls 0) (length script) (k .next))
+    turn-onward = go (ℕ-discrete calls 0)
+      where
+        go : Dec (calls ≡ 0) → Onward (turnAt bytes places script at) script at (cond (eqb calls 0) (length script) (k .next))
+        go (yes z) = rw (eqb-yes calls 0 z) (turn-stops z)
+        go (no n) = rw (eqb-no calls 0 n) (turn-goes n)
+
+pub turn-advanced : {l : Layout} (t : Turned) {b : State} {r : Ran} {p : Progress} (next end at : ℕ) {script s n f d k marks order layout table : List ℕ} → p ≡ advancedOf r next end → Runs l (t .calls) b (r .refused) (state (r .heap) s n f d k) → r .calls ≡ length (t .calls) →
+    Onward t script at (cond (eqb (r .calls) 0) end next) → Ready (state (r .heap) s n f d k) marks order layout table →
+    Runs l (t .calls) b (p .refused) (state (p .heap) s n f d k) × ((p .calls ≡ length (t .calls)) × (Onward t script at (p .next) × Ready (state (p .heap) s n f d k) marks order layout table))
+unfolding advancedOf
+turn-advanced t next end at e x y o g = rw e (x, (y, (o, g)))
 
 -- ---- calls one after another
 

@@ -16,6 +16,7 @@ use Rattle.script.specs.Parse.{calledBy}
 use Rattle.heap.specs.declared.Heap.{Heap}
 use Rattle.commands.specs.declared.Performed.{Performed}
 use Rattle.commands.specs.declared.Performed.the-variants.{Known, Unknown}
+use Rattle.runner.specs.declared.Progress.{Progress}
 use Rattle.runner.specs.declared.Ran.{Ran}
 use Rattle.runner.specs.Scripts.{Turned, turnOf}
 
@@ -27,6 +28,10 @@ refusedOne n = cond (eqb n 0) 0 1
 unfoldable pub ranOf : Heap → Performed → Ran
 ranOf h (Known s) = record { heap = h; calls = 1; refused = refusedOne (s .refusal) }
 ranOf h Unknown = record { heap = h; calls = 0; refused = 0 }
+
+-- a command that made no call ends the script
+unfoldable pub advancedOf : Ran → ℕ → ℕ → Progress
+advancedOf r next end = record { heap = r .heap; calls = r .calls; refused = r .refused; next = cond (eqb (r .calls) 0) end next }
 
 unfoldable pub refusals : List Seen → ℕ
 refusals [] = 0

@@ -7,7 +7,7 @@ ghost use Rattle.layout.specs.Sections.{layoutOf};
 ghost use Rattle.heap.specs.State.{state};
 ghost use Rattle.commands.specs.Lists.{Ready};
 ghost use Rattle.runner.specs.Scripts.{bytesFor, bytesLent, callIn, callsOf, numbered, placesLent, turnedBy};
-ghost use Rattle.runner.specs.Runs.{Onward, Runs, refusedOne, ranOf, turnAt};
+ghost use Rattle.runner.specs.Runs.{Onward, Runs, advancedOf, refusedOne, ranOf, turnAt};
 use commands::Operands;
 use commands::Performed;
 use heap::Heap;
@@ -196,6 +196,29 @@ fn make(
     counted(h, performed)
 }
 
+// A command that made no call ends the script.
+fn advanced(r: Ran, next: usize, end: usize) -> Progress
+    ensures { λ p. ⌜ p ≡ advancedOf r next end ⌝ }
+{
+    let heap = r.heap;
+    let calls = r.calls;
+    let refused = r.refused;
+    if calls == 0 {
+        return Progress {
+            heap,
+            calls,
+            refused,
+            next: end,
+        };
+    }
+    Progress {
+        heap,
+        calls,
+        refused,
+        next,
+    }
+}
+
 // The command at a place.
 fn turn(
     heap: Heap,
@@ -260,23 +283,7 @@ fn turn(
         bytes,
         places,
     );
-    let h = r.heap;
-    let calls = r.calls;
-    let refused = r.refused;
-    if calls == 0 {
-        return Progress {
-            heap: h,
-            calls,
-            refused,
-            next: end,
-        };
-    }
-    Progress {
-        heap: h,
-        calls,
-        refused,
-        next: k.next,
-    }
+    advanced(r, k.next, end)
 }
 
 // The calls of a script, up to the first command that makes none. Each command has its words in the
