@@ -1319,7 +1319,8 @@ pub fn put(
                 ),
                 map_store::Found::At(pos) => {
                     let account = heap.account;
-                    if !zero_fits(account) {
+                    let fits = zero_fits(account);
+                    if !fits {
                         return Settled {
                             heap,
                             done: Done::Refused(Refusal::OverBudget),

@@ -1,1 +1,3 @@
 pub mod PerformedLaws
+pub mod SizeLaws
+pub mod ListLaws

@@ -9,6 +9,7 @@ use lib.ListN.{length}
 use lib.Ieee.{ofBits, binary64}
 use Rattle.words.specs.Word.{signedBits}
 use Rattle.map_store.specs.Store.{Cursor}
+use Rattle.heap.specs.Kinds.{framesIn}
 use Rattle.model.specs.Rules.{Part, payload, key, result, signal}
 use Rattle.model.specs.Calls.{Call, truth-word, char-word, float-word, integer-word, reference-word, read-word, same-words, charge, fits-bytes, wants-gc, new-string, new-integer, new-cell, new-error, new-box, new-array, new-map, new-struct, new-function, new-iter, new-coroutine, get, deref-word, kind-of, read-string, string-length, read-integer, read-cell, cell-type, error-kind, error-word, read-box, array-type, array-length, array-capacity, read-item, struct-number, field-count, read-field, is-import, function-number, capture-count, read-capture, read-state, read-part, coroutine-sequence, coroutine-finalized, register-count, frame-count, read-frame, read-register, store-cell, store-box, store-item, push, pop, store-field, store-capture, store-register, store-part, set-state, put, insert-entry, find, remove, remove-at, read-entry, set-value, note, next-key, next, live-count, place-count, is-hashed, key-type, value-type, map-epoch, next-sequence, noted-key, entry-capacity, index-length, growth-bytes, iter-next, iter-key, iter-source, iter-key-type, iter-ended, iter-cursor, collect, collection-count, freed-count, used-bytes, present-count, cells-in-use}
 use Rattle.commands.specs.declared.Operands.{Operands}
@@ -189,3 +190,33 @@ mapChange c o =
 -- every change whose operands are no lists
 unfoldable pub changeCall : ℕ → Operands → Option Call
 changeCall c o = orElse (newCall c o) (orElse (storeCall c o) (orElse (growCall c o) (mapChange c o)))
+
+-- ---- calls with lists
+
+-- state, sequence number, payload, key, result, signal; the frames have function, counter, base and closure of each, one frame after the other
+abbrev pub newCoroutine : Operands → List ℕ → List ℕ → Call
+newCoroutine o registers frames = new-coroutine o.a o.b o.c o.d o.e o.f registers (framesIn frames 0 (length frames / 4))
+
+-- new objects: words are fields, captures or registers
+unfoldable pub newWithList : ℕ → Operands → List ℕ → List ℕ → List ℕ → Option Call
+newWithList c o words frames bytes =
+    cond (eqb c 0x04) (some (new-string bytes))
+    (cond (eqb c 0x09) (some (new-struct o.a words))
+    (cond (eqb c 0x0A) (some (new-function (not (eqb o.a 0)) o.b words))
+    (cond (eqb c 0x0E) (some (newCoroutine o words frames))
+    none)))
+
+-- a collection from the roots, with the places of its lent list; a string read into the bytes
+unfoldable pub lentCall : ℕ → Operands → List ℕ → List ℕ → List ℕ → Option Call
+lentCall c o roots bytes places =
+    cond (eqb c 0x0F) (some (collect roots places))
+    (cond (eqb c 0x26) (some (read-string o.a bytes))
+    none)
+
+-- every call with lists
+unfoldable pub listCall : ℕ → Operands → List ℕ → List ℕ → List ℕ → List ℕ → Option Call
+listCall c o words frames bytes places = orElse (newWithList c o words frames bytes) (lentCall c o words bytes places)
+
+-- every call
+unfoldable pub commandCall : ℕ → Operands → List ℕ → List ℕ → List ℕ → List ℕ → Option Call
+commandCall c o words frames bytes places = orElse (readCall c o) (orElse (changeCall c o) (listCall c o words frames bytes places))

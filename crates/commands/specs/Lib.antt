@@ -1,3 +1,4 @@
 pub mod Commands
 pub mod Shows
 pub mod Promise
+pub mod Lists

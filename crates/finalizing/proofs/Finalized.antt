@@ -1,6 +1,6 @@
 -- What finalizing leaves of the scalars, and which slots F names.
 use Prim.Native.Nat.{ℕ, zero, suc, _+_, _-_, _*_, _/_, _%_, _≤_, _<_}
-use mathlib.Core.Path.{_≡_, refl, sym, ap, _∙_}
+use mathlib.Core.Path.{_≡_, refl, sym, ap, subst, _∙_}
 use mathlib.Core.Logic.{_≢_, _⊎_, inl, inr, ⊎-elim}
 use mathlib.Core.Bool.{Bool, true, false, cond, _&&_}
 use mathlib.Core.List.{List, [], _∷_, _++_}
@@ -104,7 +104,7 @@ mem-occ w (x ∷ xs) e = go (ℕ-discrete w x) (λ q. mem-occ w xs q)
 module _ (l : Layout) (s x c : List ℕ) (n : ℕ) (roots : List ℕ) where
   pub dropped-member : (w : ℕ) → 0 < countIn w (droppedWords l s x c n roots) → Member (isDropped s x (marksReached l s x c n roots)) (wordAt s) n w
   unfolding droppedWords
-  dropped-member w h = member-from (isDropped s x (marksReached l s x c n roots)) (wordAt s) n n 0 w (omega arith) (rw (sort-occ (seqOf s) w (droppedSlots s x (marksReached l s x c n roots) n)) at h)
+  dropped-member w h = member-from (isDropped s x (marksReached l s x c n roots)) (wordAt s) n n 0 w (omega arith) (subst (λ (k : ℕ). 0 < k) (sort-occ (seqOf s) w (droppedSlots s x (marksReached l s x c n roots) n)) h)
 
   pub dropped-owned : n ≤ 65536 → n * 8 ≤ length s → Owned s (droppedWords l s x c n roots)
   dropped-owned few fits = record { each = λ w h. own (dropped-member w h) }

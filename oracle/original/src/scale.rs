@@ -98,7 +98,7 @@ pub(crate) fn extra(c: &Call, refusal: u64, x: &[u64; 6], lent: &[u64], bytes: &
 
 const ROWS: usize = 12;
 
-struct Gen { state: u64, pool: [Vec<u64>; ROWS], open: Option<[u64; 5]> }
+struct Gen { state: u64, pool: [Vec<u64>; ROWS] }
 
 impl Gen {
     fn next(&mut self) -> u64 {
@@ -219,6 +219,9 @@ impl Gen {
 
     fn call(&mut self, present: u64, taken: u64) -> Call {
         if present > 64_000 || taken > 1_000_000 || self.one_in(120_000) { return self.collection(); }
+        // What the driver reads off the originals' Debug form is asked for rarely.
+        if self.one_in(4000) { return Call { code: 0x48 + self.below(5) as u8, a: [self.of(7), 0, 0, 0, 0, 0], ..Call::default() }; }
+        if self.one_in(300_000) { return Call { code: 0x56, ..Call::default() }; }
         match self.below(100) {
             0..=17 => self.make(),
             18..=49 => self.on_map(),
@@ -261,8 +264,7 @@ fn life(g: &mut Gen, calls: u64, limit: u64, ours: &mut Ours, tally: &mut [u64; 
 }
 
 pub(crate) fn main(calls: u64, seed: u64) {
-    let mut g = Gen { state: seed, pool: Default::default(), open: None };
-    g.open = Some(weights());
+    let mut g = Gen { state: seed, pool: Default::default() };
     let mut ours = Ours::new(65_536, 1_048_576);
     let mut tally = [0u64; 3];
     let lives = calls.div_ceil(1_000_000).max(1);

@@ -1,0 +1,22 @@
+use borrow.Author.Needs.{needs}
+use Rattle.capi.proofs.Laws.{good-loaded, keeps}
+use Rattle.capi.proofs.mch_array_length.Statement.{statement}
+use Rattle.capi.proofs.mch_array_length.Tie as tie
+
+load-requires : tie.Need-load-requires
+load-requires c κs = search needs
+
+array-length-requires : tie.Need-array-length-requires
+array-length-requires c κs = good-loaded (c .load .ensures) (c .before .before .before .before .before .before .pre)
+
+reading-requires : tie.Need-reading-requires
+reading-requires c κs = search needs
+
+tell-requires : tie.Need-tell-requires
+tell-requires c κs = search needs
+
+returns : tie.Need-returns
+returns c = keeps (c .before .before .before .before .load .ensures) (c .before .before .before .array-length .ensures) (c .before .reading .ensures) (c .tell .ensures)
+
+pub mch-array-length-spec : {M : Type 1} → statement M
+mch-array-length-spec = tie.close (tie.spec load-requires array-length-requires reading-requires tell-requires returns)

@@ -1,0 +1,22 @@
+use borrow.Author.Needs.{needs}
+use Rattle.capi.proofs.Laws.{good-loaded, keeps}
+use Rattle.capi.proofs.mch_deref.Statement.{statement}
+use Rattle.capi.proofs.mch_deref.Tie as tie
+
+load-requires : tie.Need-load-requires
+load-requires c κs = search needs
+
+deref-requires : tie.Need-deref-requires
+deref-requires c κs = good-loaded (c .load .ensures) (c .before .before .before .before .before .before .pre)
+
+number-requires : tie.Need-number-requires
+number-requires c κs = search needs
+
+tell-requires : tie.Need-tell-requires
+tell-requires c κs = search needs
+
+returns : tie.Need-returns
+returns c = keeps (c .before .before .before .before .load .ensures) (c .before .before .before .deref .ensures) (c .before .number .ensures) (c .tell .ensures)
+
+pub mch-deref-spec : {M : Type 1} → statement M
+mch-deref-spec = tie.close (tie.spec load-requires deref-requires number-requires tell-requires returns)

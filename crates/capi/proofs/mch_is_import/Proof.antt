@@ -1,0 +1,22 @@
+use borrow.Author.Needs.{needs}
+use Rattle.capi.proofs.Laws.{good-loaded, keeps}
+use Rattle.capi.proofs.mch_is_import.Statement.{statement}
+use Rattle.capi.proofs.mch_is_import.Tie as tie
+
+load-requires : tie.Need-load-requires
+load-requires c κs = search needs
+
+is-import-requires : tie.Need-is-import-requires
+is-import-requires c κs = good-loaded (c .load .ensures) (c .before .before .before .before .before .before .pre)
+
+test-requires : tie.Need-test-requires
+test-requires c κs = search needs
+
+tell-requires : tie.Need-tell-requires
+tell-requires c κs = search needs
+
+returns : tie.Need-returns
+returns c = keeps (c .before .before .before .before .load .ensures) (c .before .before .before .is-import .ensures) (c .before .test .ensures) (c .tell .ensures)
+
+pub mch-is-import-spec : {M : Type 1} → statement M
+mch-is-import-spec = tie.close (tie.spec load-requires is-import-requires test-requires tell-requires returns)

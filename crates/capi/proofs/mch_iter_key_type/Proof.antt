@@ -1,0 +1,22 @@
+use borrow.Author.Needs.{needs}
+use Rattle.capi.proofs.Laws.{good-loaded, keeps}
+use Rattle.capi.proofs.mch_iter_key_type.Statement.{statement}
+use Rattle.capi.proofs.mch_iter_key_type.Tie as tie
+
+load-requires : tie.Need-load-requires
+load-requires c κs = search needs
+
+iter-key-type-requires : tie.Need-iter-key-type-requires
+iter-key-type-requires c κs = good-loaded (c .load .ensures) (c .before .before .before .before .before .before .pre)
+
+reading-requires : tie.Need-reading-requires
+reading-requires c κs = search needs
+
+tell-requires : tie.Need-tell-requires
+tell-requires c κs = search needs
+
+returns : tie.Need-returns
+returns c = keeps (c .before .before .before .before .load .ensures) (c .before .before .before .iter-key-type .ensures) (c .before .reading .ensures) (c .tell .ensures)
+
+pub mch-iter-key-type-spec : {M : Type 1} → statement M
+mch-iter-key-type-spec = tie.close (tie.spec load-requires iter-key-type-requires reading-requires tell-requires returns)

@@ -1,0 +1,35 @@
+use borrow.Author.Needs.{needs}
+use mir.Facts.{toZ-ofZ}
+use Rattle.capi.proofs.Laws.{good-loaded, performs}
+use Rattle.capi.proofs.mch_new_array.Statement.{statement}
+use Rattle.capi.proofs.mch_new_array.Tie as tie
+
+load-requires : tie.Need-load-requires
+load-requires c κs = search needs
+
+new-array-requires : tie.Need-new-array-requires
+new-array-requires c κs = good-loaded (c .before .before .before .load .ensures) (c .before .before .before .before .before .before .before .before .before .before .pre)
+
+save-requires : tie.Need-save-requires
+save-requires c κs = search needs
+
+made-requires : tie.Need-made-requires
+made-requires c κs = search needs
+
+tell-requires : tie.Need-tell-requires
+tell-requires c κs = search needs
+
+same-length : tie.Need-same-length
+same-length c = search needs
+
+same-length-2 : tie.Need-same-length-2
+same-length-2 c = search needs
+
+same-length-3 : tie.Need-same-length-3
+same-length-3 c = search needs
+
+returns : tie.Need-returns
+returns c = performs (c .before .before .before .before .before .before .before .before .before .before .before .before .before .before .before .before .load .ensures) (c .before .before .before .save .ensures) (rw (toZ-ofZ (c .before .before .before .before .before .before .before .before .before .before .before .before .before .before .before .before .before .before .before .before .before .before .before .fits .length)) at (c .before .before .before .before .before .before .before .before .before .before .before .before .new-array .ensures)) (c .before .made .ensures) (c .tell .ensures)
+
+pub mch-new-array-spec : {M : Type 1} → statement M
+mch-new-array-spec = tie.close (tie.spec load-requires new-array-requires save-requires made-requires tell-requires same-length same-length-2 same-length-3 returns)

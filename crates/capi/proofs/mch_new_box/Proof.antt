@@ -1,0 +1,28 @@
+use borrow.Author.Needs.{needs}
+use Rattle.capi.proofs.Laws.{good-loaded, performs}
+use Rattle.capi.proofs.mch_new_box.Statement.{statement}
+use Rattle.capi.proofs.mch_new_box.Tie as tie
+
+load-requires : tie.Need-load-requires
+load-requires c κs = search needs
+
+new-box-requires : tie.Need-new-box-requires
+new-box-requires c κs = good-loaded (c .before .load .ensures) (c .before .before .before .before .before .before .before .before .pre)
+
+save-requires : tie.Need-save-requires
+save-requires c κs = search needs
+
+made-requires : tie.Need-made-requires
+made-requires c κs = search needs
+
+tell-requires : tie.Need-tell-requires
+tell-requires c κs = search needs
+
+same-length : tie.Need-same-length
+same-length c = search needs
+
+returns : tie.Need-returns
+returns c = performs (c .before .before .before .before .before .before .before .before .before .before .load .ensures) (c .before .before .before .save .ensures) (c .before .before .before .before .before .before .before .before .new-box .ensures) (c .before .made .ensures) (c .tell .ensures)
+
+pub mch-new-box-spec : {M : Type 1} → statement M
+mch-new-box-spec = tie.close (tie.spec load-requires new-box-requires save-requires made-requires tell-requires same-length returns)

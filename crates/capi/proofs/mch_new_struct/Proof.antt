@@ -1,0 +1,34 @@
+use borrow.Author.Needs.{needs}
+use Rattle.capi.proofs.Laws.{good-loaded, performs}
+use Rattle.capi.proofs.mch_new_struct.Statement.{statement}
+use Rattle.capi.proofs.mch_new_struct.Tie as tie
+
+load-requires : tie.Need-load-requires
+load-requires c κs = search needs
+
+new-struct-requires : tie.Need-new-struct-requires
+new-struct-requires c κs = good-loaded (c .before .before .before .load .ensures) (c .before .before .before .before .before .before .before .before .before .before .before .pre)
+
+save-requires : tie.Need-save-requires
+save-requires c κs = search needs
+
+made-requires : tie.Need-made-requires
+made-requires c κs = search needs
+
+tell-requires : tie.Need-tell-requires
+tell-requires c κs = search needs
+
+same-length : tie.Need-same-length
+same-length c = search needs
+
+same-length-2 : tie.Need-same-length-2
+same-length-2 c = search needs
+
+same-length-3 : tie.Need-same-length-3
+same-length-3 c = search needs
+
+returns : tie.Need-returns
+returns c = performs (c .before .before .before .before .before .before .before .before .before .before .before .before .before .before .before .before .load .ensures) (c .before .before .before .save .ensures) (c .before .before .before .before .before .before .before .before .before .before .before .before .new-struct .ensures) (c .before .made .ensures) (c .tell .ensures)
+
+pub mch-new-struct-spec : {M : Type 1} → statement M
+mch-new-struct-spec = tie.close (tie.spec load-requires new-struct-requires save-requires made-requires tell-requires same-length same-length-2 same-length-3 returns)

@@ -1,0 +1,22 @@
+use borrow.Author.Needs.{needs}
+use Rattle.capi.proofs.Laws.{good-loaded, keeps}
+use Rattle.capi.proofs.mch_place_count.Statement.{statement}
+use Rattle.capi.proofs.mch_place_count.Tie as tie
+
+load-requires : tie.Need-load-requires
+load-requires c κs = search needs
+
+place-count-requires : tie.Need-place-count-requires
+place-count-requires c κs = good-loaded (c .load .ensures) (c .before .before .before .before .before .before .pre)
+
+reading-requires : tie.Need-reading-requires
+reading-requires c κs = search needs
+
+tell-requires : tie.Need-tell-requires
+tell-requires c κs = search needs
+
+returns : tie.Need-returns
+returns c = keeps (c .before .before .before .before .load .ensures) (c .before .before .before .place-count .ensures) (c .before .reading .ensures) (c .tell .ensures)
+
+pub mch-place-count-spec : {M : Type 1} → statement M
+mch-place-count-spec = tie.close (tie.spec load-requires place-count-requires reading-requires tell-requires returns)

@@ -1,0 +1,22 @@
+use borrow.Author.Needs.{needs}
+use Rattle.capi.proofs.Laws.{good-loaded, keeps}
+use Rattle.capi.proofs.mch_present_count.Statement.{statement}
+use Rattle.capi.proofs.mch_present_count.Tie as tie
+
+load-requires : tie.Need-load-requires
+load-requires c κs = search needs
+
+present-count-requires : tie.Need-present-count-requires
+present-count-requires c κs = good-loaded (c .load .ensures) (c .before .before .before .before .before .before .pre)
+
+number-requires : tie.Need-number-requires
+number-requires c κs = search needs
+
+tell-requires : tie.Need-tell-requires
+tell-requires c κs = search needs
+
+returns : tie.Need-returns
+returns c = keeps (c .before .before .before .before .load .ensures) (c .before .before .before .present-count .ensures) (c .before .number .ensures) (c .tell .ensures)
+
+pub mch-present-count-spec : {M : Type 1} → statement M
+mch-present-count-spec = tie.close (tie.spec load-requires present-count-requires number-requires tell-requires returns)

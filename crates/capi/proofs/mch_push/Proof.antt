@@ -1,0 +1,34 @@
+use borrow.Author.Needs.{needs}
+use Rattle.capi.proofs.Laws.{good-loaded, performs}
+use Rattle.capi.proofs.mch_push.Statement.{statement}
+use Rattle.capi.proofs.mch_push.Tie as tie
+
+load-requires : tie.Need-load-requires
+load-requires c κs = search needs
+
+push-requires : tie.Need-push-requires
+push-requires c κs = good-loaded (c .before .before .before .load .ensures) (c .before .before .before .before .before .before .before .before .before .before .pre)
+
+save-requires : tie.Need-save-requires
+save-requires c κs = search needs
+
+done-requires : tie.Need-done-requires
+done-requires c κs = search needs
+
+tell-requires : tie.Need-tell-requires
+tell-requires c κs = search needs
+
+same-length : tie.Need-same-length
+same-length c = search needs
+
+same-length-2 : tie.Need-same-length-2
+same-length-2 c = search needs
+
+same-length-3 : tie.Need-same-length-3
+same-length-3 c = search needs
+
+returns : tie.Need-returns
+returns c = performs (c .before .before .before .before .before .before .before .before .before .before .before .before .before .before .before .before .load .ensures) (c .before .before .before .save .ensures) (c .before .before .before .before .before .before .before .before .before .before .before .before .push .ensures) (c .before .done .ensures) (c .tell .ensures)
+
+pub mch-push-spec : {M : Type 1} → statement M
+mch-push-spec = tie.close (tie.spec load-requires push-requires save-requires done-requires tell-requires same-length same-length-2 same-length-3 returns)

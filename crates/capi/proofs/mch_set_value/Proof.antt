@@ -1,0 +1,25 @@
+use borrow.Author.Needs.{needs}
+use Rattle.capi.proofs.Laws.{good-loaded, keeps}
+use Rattle.capi.proofs.mch_set_value.Statement.{statement}
+use Rattle.capi.proofs.mch_set_value.Tie as tie
+
+load-requires : tie.Need-load-requires
+load-requires c κs = search needs
+
+set-value-requires : tie.Need-set-value-requires
+set-value-requires c κs = good-loaded (c .before .load .ensures) (c .before .before .before .before .before .before .before .pre)
+
+done-requires : tie.Need-done-requires
+done-requires c κs = search needs
+
+tell-requires : tie.Need-tell-requires
+tell-requires c κs = search needs
+
+same-length : tie.Need-same-length
+same-length c = search needs
+
+returns : tie.Need-returns
+returns c = keeps (c .before .before .before .before .before .before .before .load .ensures) (c .before .before .before .before .before .set-value .ensures) (c .before .done .ensures) (c .tell .ensures)
+
+pub mch-set-value-spec : {M : Type 1} → statement M
+mch-set-value-spec = tie.close (tie.spec load-requires set-value-requires done-requires tell-requires same-length returns)

@@ -1,0 +1,25 @@
+use borrow.Author.Needs.{needs}
+use Rattle.capi.proofs.Laws.{good-loaded, keeps}
+use Rattle.capi.proofs.mch_store_result.Statement.{statement}
+use Rattle.capi.proofs.mch_store_result.Tie as tie
+
+load-requires : tie.Need-load-requires
+load-requires c κs = search needs
+
+store-result-requires : tie.Need-store-result-requires
+store-result-requires c κs = good-loaded (c .before .load .ensures) (c .before .before .before .before .before .before .before .pre)
+
+done-requires : tie.Need-done-requires
+done-requires c κs = search needs
+
+tell-requires : tie.Need-tell-requires
+tell-requires c κs = search needs
+
+same-length : tie.Need-same-length
+same-length c = search needs
+
+returns : tie.Need-returns
+returns c = keeps (c .before .before .before .before .before .before .before .load .ensures) (c .before .before .before .before .before .store-result .ensures) (c .before .done .ensures) (c .tell .ensures)
+
+pub mch-store-result-spec : {M : Type 1} → statement M
+mch-store-result-spec = tie.close (tie.spec load-requires store-result-requires done-requires tell-requires same-length returns)

@@ -1,0 +1,25 @@
+use borrow.Author.Needs.{needs}
+use Rattle.capi.proofs.Laws.{good-loaded, keeps}
+use Rattle.capi.proofs.mch_store_signal.Statement.{statement}
+use Rattle.capi.proofs.mch_store_signal.Tie as tie
+
+load-requires : tie.Need-load-requires
+load-requires c κs = search needs
+
+store-signal-requires : tie.Need-store-signal-requires
+store-signal-requires c κs = good-loaded (c .before .load .ensures) (c .before .before .before .before .before .before .before .pre)
+
+done-requires : tie.Need-done-requires
+done-requires c κs = search needs
+
+tell-requires : tie.Need-tell-requires
+tell-requires c κs = search needs
+
+same-length : tie.Need-same-length
+same-length c = search needs
+
+returns : tie.Need-returns
+returns c = keeps (c .before .before .before .before .before .before .before .load .ensures) (c .before .before .before .before .before .store-signal .ensures) (c .before .done .ensures) (c .tell .ensures)
+
+pub mch-store-signal-spec : {M : Type 1} → statement M
+mch-store-signal-spec = tie.close (tie.spec load-requires store-signal-requires done-requires tell-requires same-length returns)

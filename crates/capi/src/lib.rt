@@ -1,0 +1,2300 @@
+// The library for C and Rust: every call as a function on words and slices. The heap's record is
+// kept in eighteen words: the account (used, since, threshold, limit), the five weights, and size,
+// fresh, free, top, entries, taken, present, collections, freed. A function returns the number of
+// the refusal, 0 where the call is accepted; the words answered go into `answer`, zeros where there
+// are none.
+use account::Account;
+use allocation::Coroutine;
+use commands::Shown;
+use heap::Heap;
+use heap::Opened;
+use map_store::Cursor;
+use map_store::Last;
+use model::Weights;
+ghost use mathlib.Core.Path.{_≡_};
+ghost use Prim.Native.Nat.{_/_, _%_};
+ghost use lib.Ieee.{ofBits, binary64};
+ghost use lib.ListN.{length};
+ghost use Rattle.layout.specs.Layout.{Layout};
+ghost use Rattle.layout.specs.Sections.{Tabled, layoutOf};
+ghost use Rattle.map_store.specs.View.{cursorIs};
+ghost use Rattle.model.specs.Calls as Calls;
+ghost use Rattle.model.specs.Rules as Parts;
+ghost use Rattle.heap.specs.Good.{Good, Rested};
+ghost use Rattle.heap.specs.State.{state};
+ghost use Rattle.heap.specs.Kinds.{framesIn};
+ghost use Rattle.heap.specs.Opens.{beside, newHeap, openingOf};
+ghost use Rattle.allocation.specs.Coroutines.{callOf};
+ghost use Rattle.capi.specs.Record.{coroutineIn, cursorIn, cursorOut, loaded, told, weightsIn, yes};
+ghost use Rattle.capi.specs.Promise.{OpensWords, Performs, Reads, Settles, ShowsList, Words, holds};
+
+// ---- the words lent
+
+fn load(words: &[u64; 18]) -> Heap
+    ensures { λ r. ⌜ r ≡ loaded (now (words .entry)) ⌝ }
+{
+    let account = Account {
+        used: words[0],
+        since: words[1],
+        threshold: words[2],
+        limit: words[3],
+    };
+    let weights = Weights {
+        slot: words[4],
+        entry: words[5],
+        iterator: words[6],
+        coroutine: words[7],
+        frame: words[8],
+    };
+    Heap {
+        account,
+        weights,
+        size: words[9],
+        fresh: words[10],
+        free: words[11],
+        top: words[12],
+        entries: words[13],
+        taken: words[14],
+        present: words[15],
+        collections: words[16],
+        freed: words[17],
+    }
+}
+
+fn save(words: &mut [u64; 18], heap: Heap)
+    ensures { λ _. ⌜ loaded (now (words .exit)) ≡ heap ⌝ }
+{
+    let account = heap.account;
+    let weights = heap.weights;
+    *words = [
+        account.used,
+        account.since,
+        account.threshold,
+        account.limit,
+        weights.slot,
+        weights.entry,
+        weights.iterator,
+        weights.coroutine,
+        weights.frame,
+        heap.size,
+        heap.fresh,
+        heap.free,
+        heap.top,
+        heap.entries,
+        heap.taken,
+        heap.present,
+        heap.collections,
+        heap.freed,
+    ];
+}
+
+// Writes the answer's words; the refusal's number is returned.
+fn tell(answer: &mut [u64; 6], s: Shown) -> u64
+    ensures { λ r. ⌜ told r (now (answer .exit)) ≡ s ⌝ }
+{
+    *answer = [s.word, s.x, s.y, s.z, s.u, s.v];
+    s.refusal
+}
+
+fn load_weights(words: &[u64; 5]) -> Weights
+    ensures { λ r. ⌜ r ≡ weightsIn (now (words .entry)) ⌝ }
+{
+    Weights {
+        slot: words[0],
+        entry: words[1],
+        iterator: words[2],
+        coroutine: words[3],
+        frame: words[4],
+    }
+}
+
+fn load_coroutine(words: &[u64; 6]) -> Coroutine
+    ensures { λ r. ⌜ r ≡ coroutineIn (now (words .entry)) ⌝ }
+{
+    Coroutine {
+        state: words[0],
+        sequence: words[1],
+        payload: words[2],
+        key: words[3],
+        result: words[4],
+        signal: words[5],
+    }
+}
+
+fn load_cursor(words: &[u64; 4]) -> Cursor
+    ensures { λ r. ⌜ cursorIs r ≡ cursorIn (now (words .entry)) ⌝ }
+{
+    let pos = words[2] as usize;
+    let epoch = (words[3] % 4294967296) as u32;
+    if words[0] == 0 {
+        return Cursor {
+            last: Last::Never,
+            pos,
+            epoch,
+        };
+    }
+    Cursor {
+        last: Last::Seq(words[1]),
+        pos,
+        epoch,
+    }
+}
+
+// The lent cursor as the call left it.
+fn save_cursor(words: &mut [u64; 4], s: Shown)
+    ensures { λ _. ⌜ now (words .exit) ≡ cursorOut s (now (words .entry)) ⌝ }
+{
+    if s.refusal == 0 {
+        *words = [s.y, s.z, s.u, s.v];
+    }
+}
+
+// Keeps the record of a heap that was opened.
+fn settle(words: &mut [u64; 18], opened: Opened) -> u64
+    ensures { λ r. ⌜ Settles opened (now (words .entry)) r (now (words .exit)) ⌝ }
+{
+    match opened {
+        Opened::Ready(heap) => {
+            save(words, heap);
+            0
+        }
+        Opened::Refused(q) => commands::number_of(q),
+    }
+}
+
+// ---- words: writing, reading, comparing; no heap is needed
+
+// The word of a truth value: no for 0, else yes.
+#[no_mangle]
+pub extern "C" fn mch_truth_word(b: u64, answer: &mut [u64; 6]) -> u64
+    ensures { λ r. ⌜ Words (Calls.truth-word (yes b)) r (now (answer .exit)) ⌝ }
+{
+    tell(answer, commands::number(words::from_bool(b != 0)))
+}
+
+// The word of a character.
+#[no_mangle]
+pub extern "C" fn mch_char_word(c: u32, answer: &mut [u64; 6]) -> u64
+    ensures { λ r. ⌜ Words (Calls.char-word c) r (now (answer .exit)) ⌝ }
+{
+    tell(answer, commands::number(words::from_char(c)))
+}
+
+// The word of the float of a binary64 pattern; every NaN has one word.
+#[no_mangle]
+pub extern "C" fn mch_float_word(bits: u64, answer: &mut [u64; 6]) -> u64
+    ensures { λ r. ⌜ Words (Calls.float-word (ofBits binary64 bits)) r (now (answer .exit)) ⌝ }
+{
+    let f = words::float_of_bits(bits);
+    tell(answer, commands::number(words::from_f64(f)))
+}
+
+// The word of an integer, where it has one inline.
+#[no_mangle]
+pub extern "C" fn mch_integer_word(z: i64, answer: &mut [u64; 6]) -> u64
+    ensures { λ r. ⌜ Words (Calls.integer-word z) r (now (answer .exit)) ⌝ }
+{
+    let w = words::inline_int(z);
+    tell(answer, commands::inline(w))
+}
+
+// The word of a reference.
+#[no_mangle]
+pub extern "C" fn mch_reference_word(slot: u32, tag: u16, answer: &mut [u64; 6]) -> u64
+    ensures { λ r. ⌜ Words (Calls.reference-word slot tag) r (now (answer .exit)) ⌝ }
+{
+    tell(answer, commands::number(words::from_ref(slot, tag)))
+}
+
+// What a word reads as.
+#[no_mangle]
+pub extern "C" fn mch_read_word(w: u64, answer: &mut [u64; 6]) -> u64
+    ensures { λ r. ⌜ Words (Calls.read-word w) r (now (answer .exit)) ⌝ }
+{
+    let a = words::decode(w);
+    tell(answer, commands::raw(a))
+}
+
+// Whether two words read as the same.
+#[no_mangle]
+pub extern "C" fn mch_same_words(a: u64, b: u64, answer: &mut [u64; 6]) -> u64
+    ensures { λ r. ⌜ Words (Calls.same-words a b) r (now (answer .exit)) ⌝ }
+{
+    tell(answer, commands::flag(words::same(a, b)))
+}
+
+// ---- the heap as a whole
+
+// A heap of `size` slots over the lent buffers; a refusal, 10, leaves the words and every buffer as
+// they were.
+#[no_mangle]
+pub extern "C" fn mch_open(
+    heap: &mut [u64; 18],
+    size: u64,
+    limit: u64,
+    weights: &[u64; 5],
+    layout: &[u8],
+    table: &mut [u64],
+    marks: &mut [u8],
+    order: &mut [u32],
+    slots: &[u64],
+    scalars: &[u64],
+    list: &[u64],
+    directory: &[u64],
+    cells: &[u64],
+) -> u64
+    ensures { λ r. ⌜ OpensWords (openingOf size (length (now (cells .entry))) limit (weightsIn (now (weights .entry))) (now (layout .entry))) (state (newHeap size limit (weightsIn (now (weights .entry)))) (now (slots .entry)) (now (scalars .entry)) (now (list .entry)) (now (directory .entry)) (now (cells .entry))) (beside (now (table .entry)) (now (marks .entry)) (now (order .entry))) (now (heap .entry)) r (now (heap .exit)) (beside (now (table .exit)) (now (marks .exit)) (now (order .exit))) ⌝ }
+{
+    let w = load_weights(weights);
+    let opened = heap::open(
+        size,
+        limit,
+        w,
+        layout,
+        table,
+        marks,
+        order,
+        slots,
+        scalars,
+        list,
+        directory,
+        cells,
+    );
+    settle(heap, opened)
+}
+
+// A charge of `bytes`, without an object.
+#[no_mangle]
+pub extern "C" fn mch_charge(
+    heap: &mut [u64; 18],
+    slots: &[u64],
+    scalars: &[u64],
+    list: &[u64],
+    directory: &[u64],
+    cells: &[u64],
+    bytes: u64,
+    answer: &mut [u64; 6],
+) -> u64
+    requires { ⌜ Good (holds (now heap) (now slots) (now scalars) (now list) (now directory) (now cells)) ⌝ }
+    ensures { λ r. ⌜ Performs (Calls.charge bytes) (holds (now (heap .entry)) (now (slots .entry)) (now (scalars .entry)) (now (list .entry)) (now (directory .entry)) (now (cells .entry))) r (now (answer .exit)) (holds (now (heap .exit)) (now (slots .entry)) (now (scalars .entry)) (now (list .entry)) (now (directory .entry)) (now (cells .entry))) ⌝ }
+{
+    let h = load(heap);
+    let a = heap::charge(h, slots, scalars, list, directory, cells, bytes);
+    let next = a.heap;
+    save(heap, next);
+    let done = a.done;
+    tell(answer, commands::done(done))
+}
+
+// Whether a charge of `bytes` would be accepted.
+#[no_mangle]
+pub extern "C" fn mch_fits(
+    heap: &[u64; 18],
+    slots: &[u64],
+    scalars: &[u64],
+    list: &[u64],
+    directory: &[u64],
+    cells: &[u64],
+    bytes: u64,
+    answer: &mut [u64; 6],
+) -> u64
+    requires { ⌜ Good (holds (now heap) (now slots) (now scalars) (now list) (now directory) (now cells)) ⌝ }
+    ensures { λ r. ⌜ Reads (Calls.fits-bytes bytes) (holds (now (heap .entry)) (now (slots .entry)) (now (scalars .entry)) (now (list .entry)) (now (directory .entry)) (now (cells .entry))) r (now (answer .exit)) ⌝ }
+{
+    let h = load(heap);
+    let a = heap::fits(h, slots, scalars, list, directory, cells, bytes);
+    tell(answer, commands::flag(a))
+}
+
+// Whether a collection is due before `extra` bytes more.
+#[no_mangle]
+pub extern "C" fn mch_wants_gc(
+    heap: &[u64; 18],
+    slots: &[u64],
+    scalars: &[u64],
+    list: &[u64],
+    directory: &[u64],
+    cells: &[u64],
+    extra: u64,
+    answer: &mut [u64; 6],
+) -> u64
+    requires { ⌜ Good (holds (now heap) (now slots) (now scalars) (now list) (now directory) (now cells)) ⌝ }
+    ensures { λ r. ⌜ Reads (Calls.wants-gc extra) (holds (now (heap .entry)) (now (slots .entry)) (now (scalars .entry)) (now (list .entry)) (now (directory .entry)) (now (cells .entry))) r (now (answer .exit)) ⌝ }
+{
+    let h = load(heap);
+    let a = heap::wants_gc(h, slots, scalars, list, directory, cells, extra);
+    tell(answer, commands::flag(a))
+}
+
+// How many collections there have been.
+#[no_mangle]
+pub extern "C" fn mch_collection_count(
+    heap: &[u64; 18],
+    slots: &[u64],
+    scalars: &[u64],
+    list: &[u64],
+    directory: &[u64],
+    cells: &[u64],
+    answer: &mut [u64; 6],
+) -> u64
+    requires { ⌜ Good (holds (now heap) (now slots) (now scalars) (now list) (now directory) (now cells)) ⌝ }
+    ensures { λ r. ⌜ Reads Calls.collection-count (holds (now (heap .entry)) (now (slots .entry)) (now (scalars .entry)) (now (list .entry)) (now (directory .entry)) (now (cells .entry))) r (now (answer .exit)) ⌝ }
+{
+    let h = load(heap);
+    let a = heap::collection_count(h, slots, scalars, list, directory, cells);
+    tell(answer, commands::number(a))
+}
+
+// How many objects the collections have freed.
+#[no_mangle]
+pub extern "C" fn mch_freed_count(
+    heap: &[u64; 18],
+    slots: &[u64],
+    scalars: &[u64],
+    list: &[u64],
+    directory: &[u64],
+    cells: &[u64],
+    answer: &mut [u64; 6],
+) -> u64
+    requires { ⌜ Good (holds (now heap) (now slots) (now scalars) (now list) (now directory) (now cells)) ⌝ }
+    ensures { λ r. ⌜ Reads Calls.freed-count (holds (now (heap .entry)) (now (slots .entry)) (now (scalars .entry)) (now (list .entry)) (now (directory .entry)) (now (cells .entry))) r (now (answer .exit)) ⌝ }
+{
+    let h = load(heap);
+    let a = heap::freed_count(h, slots, scalars, list, directory, cells);
+    tell(answer, commands::number(a))
+}
+
+// The bytes charged and not freed.
+#[no_mangle]
+pub extern "C" fn mch_used_bytes(
+    heap: &[u64; 18],
+    slots: &[u64],
+    scalars: &[u64],
+    list: &[u64],
+    directory: &[u64],
+    cells: &[u64],
+    answer: &mut [u64; 6],
+) -> u64
+    requires { ⌜ Good (holds (now heap) (now slots) (now scalars) (now list) (now directory) (now cells)) ⌝ }
+    ensures { λ r. ⌜ Reads Calls.used-bytes (holds (now (heap .entry)) (now (slots .entry)) (now (scalars .entry)) (now (list .entry)) (now (directory .entry)) (now (cells .entry))) r (now (answer .exit)) ⌝ }
+{
+    let h = load(heap);
+    let a = heap::used_bytes(h, slots, scalars, list, directory, cells);
+    tell(answer, commands::number(a))
+}
+
+// How many objects are present.
+#[no_mangle]
+pub extern "C" fn mch_present_count(
+    heap: &[u64; 18],
+    slots: &[u64],
+    scalars: &[u64],
+    list: &[u64],
+    directory: &[u64],
+    cells: &[u64],
+    answer: &mut [u64; 6],
+) -> u64
+    requires { ⌜ Good (holds (now heap) (now slots) (now scalars) (now list) (now directory) (now cells)) ⌝ }
+    ensures { λ r. ⌜ Reads Calls.present-count (holds (now (heap .entry)) (now (slots .entry)) (now (scalars .entry)) (now (list .entry)) (now (directory .entry)) (now (cells .entry))) r (now (answer .exit)) ⌝ }
+{
+    let h = load(heap);
+    let a = heap::present_count(h, slots, scalars, list, directory, cells);
+    tell(answer, commands::number(a))
+}
+
+// The cells of the objects present.
+#[no_mangle]
+pub extern "C" fn mch_cells_in_use(
+    heap: &[u64; 18],
+    slots: &[u64],
+    scalars: &[u64],
+    list: &[u64],
+    directory: &[u64],
+    cells: &[u64],
+    answer: &mut [u64; 6],
+) -> u64
+    requires { ⌜ Good (holds (now heap) (now slots) (now scalars) (now list) (now directory) (now cells)) ⌝ }
+    ensures { λ r. ⌜ Reads Calls.cells-in-use (holds (now (heap .entry)) (now (slots .entry)) (now (scalars .entry)) (now (list .entry)) (now (directory .entry)) (now (cells .entry))) r (now (answer .exit)) ⌝ }
+{
+    let h = load(heap);
+    let a = heap::cells_in_use(h, slots, scalars, list, directory, cells);
+    tell(answer, commands::number(a))
+}
+
+// A collection from these roots: answers the objects freed and the coroutines listed in `places`.
+#[no_mangle]
+pub extern "C" fn mch_collect(
+    heap: &mut [u64; 18],
+    slots: &mut [u64],
+    scalars: &mut [u64],
+    list: &mut [u64],
+    directory: &[u64],
+    cells: &[u64],
+    layout: &[u8],
+    table: &[u64],
+    marks: &mut [u8],
+    order: &mut [u32],
+    roots: &[u64],
+    places: &mut [u64],
+    answer: &mut [u64; 6],
+) -> u64
+    requires good { ⌜ Good (holds (now heap) (now slots) (now scalars) (now list) (now directory) (now cells)) ⌝ }
+    requires tabled { ⌜ Tabled (now layout) (now table) ⌝ }
+    requires rested { ⌜ Rested (loaded (now heap) .size) (now marks) (now order) ⌝ }
+    ensures { λ r. ⌜ ShowsList (layoutOf (now (layout .entry))) (Calls.collect (now (roots .entry)) (now (places .entry))) (holds (now (heap .entry)) (now (slots .entry)) (now (scalars .entry)) (now (list .entry)) (now (directory .entry)) (now (cells .entry))) (told r (now (answer .exit))) (now (places .exit)) (holds (now (heap .exit)) (now (slots .exit)) (now (scalars .exit)) (now (list .exit)) (now (directory .entry)) (now (cells .entry))) ⌝ }
+    ensures { λ r. ⌜ now (marks .exit) ≡ now (marks .entry) ⌝ }
+    ensures { λ r. ⌜ now (order .exit) ≡ now (order .entry) ⌝ }
+{
+    let h = load(heap);
+    let a = collector::collect(
+        h,
+        slots,
+        scalars,
+        list,
+        directory,
+        cells,
+        layout,
+        table,
+        marks,
+        order,
+        roots,
+        places,
+    );
+    let next = a.heap;
+    save(heap, next);
+    let collection = a.answer;
+    tell(answer, commands::collected(collection))
+}
+
+// ---- new objects: each answers the reference made
+
+// A string of these bytes.
+#[no_mangle]
+pub extern "C" fn mch_new_string(
+    heap: &mut [u64; 18],
+    slots: &mut [u64],
+    scalars: &[u64],
+    list: &[u64],
+    directory: &mut [u64],
+    cells: &mut [u64],
+    bytes: &[u8],
+    answer: &mut [u64; 6],
+) -> u64
+    requires { ⌜ Good (holds (now heap) (now slots) (now scalars) (now list) (now directory) (now cells)) ⌝ }
+    ensures { λ r. ⌜ Performs (Calls.new-string (now (bytes .entry))) (holds (now (heap .entry)) (now (slots .entry)) (now (scalars .entry)) (now (list .entry)) (now (directory .entry)) (now (cells .entry))) r (now (answer .exit)) (holds (now (heap .exit)) (now (slots .exit)) (now (scalars .entry)) (now (list .entry)) (now (directory .exit)) (now (cells .exit))) ⌝ }
+{
+    let h = load(heap);
+    let a = allocation::new_string(h, slots, scalars, list, directory, cells, bytes);
+    let next = a.heap;
+    save(heap, next);
+    let made = a.answer;
+    tell(answer, commands::made(made))
+}
+
+// An integer object.
+#[no_mangle]
+pub extern "C" fn mch_new_integer(
+    heap: &mut [u64; 18],
+    slots: &mut [u64],
+    scalars: &[u64],
+    list: &[u64],
+    directory: &[u64],
+    cells: &[u64],
+    z: i64,
+    answer: &mut [u64; 6],
+) -> u64
+    requires { ⌜ Good (holds (now heap) (now slots) (now scalars) (now list) (now directory) (now cells)) ⌝ }
+    ensures { λ r. ⌜ Performs (Calls.new-integer z) (holds (now (heap .entry)) (now (slots .entry)) (now (scalars .entry)) (now (list .entry)) (now (directory .entry)) (now (cells .entry))) r (now (answer .exit)) (holds (now (heap .exit)) (now (slots .exit)) (now (scalars .entry)) (now (list .entry)) (now (directory .entry)) (now (cells .entry))) ⌝ }
+{
+    let h = load(heap);
+    let a = allocation::new_integer(h, slots, scalars, list, directory, cells, z);
+    let next = a.heap;
+    save(heap, next);
+    let made = a.answer;
+    tell(answer, commands::made(made))
+}
+
+// A cell of type `t` with the word `w`.
+#[no_mangle]
+pub extern "C" fn mch_new_cell(
+    heap: &mut [u64; 18],
+    slots: &mut [u64],
+    scalars: &[u64],
+    list: &[u64],
+    directory: &[u64],
+    cells: &[u64],
+    t: u64,
+    w: u64,
+    answer: &mut [u64; 6],
+) -> u64
+    requires { ⌜ Good (holds (now heap) (now slots) (now scalars) (now list) (now directory) (now cells)) ⌝ }
+    ensures { λ r. ⌜ Performs (Calls.new-cell t w) (holds (now (heap .entry)) (now (slots .entry)) (now (scalars .entry)) (now (list .entry)) (now (directory .entry)) (now (cells .entry))) r (now (answer .exit)) (holds (now (heap .exit)) (now (slots .exit)) (now (scalars .entry)) (now (list .entry)) (now (directory .entry)) (now (cells .entry))) ⌝ }
+{
+    let h = load(heap);
+    let a = allocation::new_cell(h, slots, scalars, list, directory, cells, t, w);
+    let next = a.heap;
+    save(heap, next);
+    let made = a.answer;
+    tell(answer, commands::made(made))
+}
+
+// An error of any 16-bit kind, with the word `w`.
+#[no_mangle]
+pub extern "C" fn mch_new_error(
+    heap: &mut [u64; 18],
+    slots: &mut [u64],
+    scalars: &[u64],
+    list: &[u64],
+    directory: &[u64],
+    cells: &[u64],
+    kind: u16,
+    w: u64,
+    answer: &mut [u64; 6],
+) -> u64
+    requires { ⌜ Good (holds (now heap) (now slots) (now scalars) (now list) (now directory) (now cells)) ⌝ }
+    ensures { λ r. ⌜ Performs (Calls.new-error kind w) (holds (now (heap .entry)) (now (slots .entry)) (now (scalars .entry)) (now (list .entry)) (now (directory .entry)) (now (cells .entry))) r (now (answer .exit)) (holds (now (heap .exit)) (now (slots .exit)) (now (scalars .entry)) (now (list .entry)) (now (directory .entry)) (now (cells .entry))) ⌝ }
+{
+    let h = load(heap);
+    let a = allocation::new_error(h, slots, scalars, list, directory, cells, kind, w);
+    let next = a.heap;
+    save(heap, next);
+    let made = a.answer;
+    tell(answer, commands::made(made))
+}
+
+// A box with the word `w`.
+#[no_mangle]
+pub extern "C" fn mch_new_box(
+    heap: &mut [u64; 18],
+    slots: &mut [u64],
+    scalars: &[u64],
+    list: &[u64],
+    directory: &[u64],
+    cells: &[u64],
+    w: u64,
+    answer: &mut [u64; 6],
+) -> u64
+    requires { ⌜ Good (holds (now heap) (now slots) (now scalars) (now list) (now directory) (now cells)) ⌝ }
+    ensures { λ r. ⌜ Performs (Calls.new-box w) (holds (now (heap .entry)) (now (slots .entry)) (now (scalars .entry)) (now (list .entry)) (now (directory .entry)) (now (cells .entry))) r (now (answer .exit)) (holds (now (heap .exit)) (now (slots .exit)) (now (scalars .entry)) (now (list .entry)) (now (directory .entry)) (now (cells .entry))) ⌝ }
+{
+    let h = load(heap);
+    let a = allocation::new_box(h, slots, scalars, list, directory, cells, w);
+    let next = a.heap;
+    save(heap, next);
+    let made = a.answer;
+    tell(answer, commands::made(made))
+}
+
+// An array of type `t` and so many nil items.
+#[no_mangle]
+pub extern "C" fn mch_new_array(
+    heap: &mut [u64; 18],
+    slots: &mut [u64],
+    scalars: &[u64],
+    list: &[u64],
+    directory: &mut [u64],
+    cells: &mut [u64],
+    t: u64,
+    length: i64,
+    answer: &mut [u64; 6],
+) -> u64
+    requires { ⌜ Good (holds (now heap) (now slots) (now scalars) (now list) (now directory) (now cells)) ⌝ }
+    ensures { λ r. ⌜ Performs (Calls.new-array t length) (holds (now (heap .entry)) (now (slots .entry)) (now (scalars .entry)) (now (list .entry)) (now (directory .entry)) (now (cells .entry))) r (now (answer .exit)) (holds (now (heap .exit)) (now (slots .exit)) (now (scalars .entry)) (now (list .entry)) (now (directory .exit)) (now (cells .exit))) ⌝ }
+{
+    let h = load(heap);
+    let a = allocation::new_array(h, slots, scalars, list, directory, cells, t, length);
+    let next = a.heap;
+    save(heap, next);
+    let made = a.answer;
+    tell(answer, commands::made(made))
+}
+
+// A map without entries, of these types of keys and values.
+#[no_mangle]
+pub extern "C" fn mch_new_map(
+    heap: &mut [u64; 18],
+    slots: &mut [u64],
+    scalars: &mut [u64],
+    list: &[u64],
+    directory: &[u64],
+    cells: &[u64],
+    keys: u64,
+    values: u64,
+    answer: &mut [u64; 6],
+) -> u64
+    requires { ⌜ Good (holds (now heap) (now slots) (now scalars) (now list) (now directory) (now cells)) ⌝ }
+    ensures { λ r. ⌜ Performs (Calls.new-map keys values) (holds (now (heap .entry)) (now (slots .entry)) (now (scalars .entry)) (now (list .entry)) (now (directory .entry)) (now (cells .entry))) r (now (answer .exit)) (holds (now (heap .exit)) (now (slots .exit)) (now (scalars .exit)) (now (list .entry)) (now (directory .entry)) (now (cells .entry))) ⌝ }
+{
+    let h = load(heap);
+    let a = collections::new_map(h, slots, scalars, list, directory, cells, keys, values);
+    let next = a.heap;
+    save(heap, next);
+    let made = a.answer;
+    tell(answer, commands::made(made))
+}
+
+// A struct of type `number` with these fields.
+#[no_mangle]
+pub extern "C" fn mch_new_struct(
+    heap: &mut [u64; 18],
+    slots: &mut [u64],
+    scalars: &[u64],
+    list: &[u64],
+    directory: &mut [u64],
+    cells: &mut [u64],
+    number: u64,
+    fields: &[u64],
+    answer: &mut [u64; 6],
+) -> u64
+    requires { ⌜ Good (holds (now heap) (now slots) (now scalars) (now list) (now directory) (now cells)) ⌝ }
+    ensures { λ r. ⌜ Performs (Calls.new-struct number (now (fields .entry))) (holds (now (heap .entry)) (now (slots .entry)) (now (scalars .entry)) (now (list .entry)) (now (directory .entry)) (now (cells .entry))) r (now (answer .exit)) (holds (now (heap .exit)) (now (slots .exit)) (now (scalars .entry)) (now (list .entry)) (now (directory .exit)) (now (cells .exit))) ⌝ }
+{
+    let h = load(heap);
+    let a = allocation::new_struct(h, slots, scalars, list, directory, cells, number, fields);
+    let next = a.heap;
+    save(heap, next);
+    let made = a.answer;
+    tell(answer, commands::made(made))
+}
+
+// A function with these captures; an import where `import` is not 0.
+#[no_mangle]
+pub extern "C" fn mch_new_function(
+    heap: &mut [u64; 18],
+    slots: &mut [u64],
+    scalars: &[u64],
+    list: &[u64],
+    directory: &mut [u64],
+    cells: &mut [u64],
+    import: u64,
+    number: u64,
+    captures: &[u64],
+    answer: &mut [u64; 6],
+) -> u64
+    requires { ⌜ Good (holds (now heap) (now slots) (now scalars) (now list) (now directory) (now cells)) ⌝ }
+    ensures { λ r. ⌜ Performs (Calls.new-function (yes import) number (now (captures .entry))) (holds (now (heap .entry)) (now (slots .entry)) (now (scalars .entry)) (now (list .entry)) (now (directory .entry)) (now (cells .entry))) r (now (answer .exit)) (holds (now (heap .exit)) (now (slots .exit)) (now (scalars .entry)) (now (list .entry)) (now (directory .exit)) (now (cells .exit))) ⌝ }
+{
+    let h = load(heap);
+    let a = allocation::new_function(
+        h,
+        slots,
+        scalars,
+        list,
+        directory,
+        cells,
+        import != 0,
+        number,
+        captures,
+    );
+    let next = a.heap;
+    save(heap, next);
+    let made = a.answer;
+    tell(answer, commands::made(made))
+}
+
+// An iterator over the array or map `source`.
+#[no_mangle]
+pub extern "C" fn mch_new_iter(
+    heap: &mut [u64; 18],
+    slots: &mut [u64],
+    scalars: &mut [u64],
+    list: &[u64],
+    directory: &[u64],
+    cells: &[u64],
+    source: u64,
+    answer: &mut [u64; 6],
+) -> u64
+    requires { ⌜ Good (holds (now heap) (now slots) (now scalars) (now list) (now directory) (now cells)) ⌝ }
+    ensures { λ r. ⌜ Performs (Calls.new-iter source) (holds (now (heap .entry)) (now (slots .entry)) (now (scalars .entry)) (now (list .entry)) (now (directory .entry)) (now (cells .entry))) r (now (answer .exit)) (holds (now (heap .exit)) (now (slots .exit)) (now (scalars .exit)) (now (list .entry)) (now (directory .entry)) (now (cells .entry))) ⌝ }
+{
+    let h = load(heap);
+    let a = collections::new_iter(h, slots, scalars, list, directory, cells, source);
+    let next = a.heap;
+    save(heap, next);
+    let made = a.answer;
+    tell(answer, commands::made(made))
+}
+
+// A coroutine: `k` holds state, sequence, payload, key, result, signal; four words to a frame:
+// function, counter, base, closure.
+#[no_mangle]
+pub extern "C" fn mch_new_coroutine(
+    heap: &mut [u64; 18],
+    slots: &mut [u64],
+    scalars: &mut [u64],
+    list: &[u64],
+    directory: &mut [u64],
+    cells: &mut [u64],
+    k: &[u64; 6],
+    registers: &[u64],
+    frames: &[u64],
+    answer: &mut [u64; 6],
+) -> u64
+    requires { ⌜ Good (holds (now heap) (now slots) (now scalars) (now list) (now directory) (now cells)) ⌝ }
+    ensures { λ r. ⌜ Performs (callOf (coroutineIn (now (k .entry))) (now (registers .entry)) (framesIn (now (frames .entry)) 0 (length (now (frames .entry)) / 4))) (holds (now (heap .entry)) (now (slots .entry)) (now (scalars .entry)) (now (list .entry)) (now (directory .entry)) (now (cells .entry))) r (now (answer .exit)) (holds (now (heap .exit)) (now (slots .exit)) (now (scalars .exit)) (now (list .entry)) (now (directory .exit)) (now (cells .exit))) ⌝ }
+{
+    let h = load(heap);
+    let made_with = load_coroutine(k);
+    let a = allocation::new_coroutine_flat(
+        h,
+        slots,
+        scalars,
+        list,
+        directory,
+        cells,
+        made_with,
+        registers,
+        frames,
+    );
+    let next = a.heap;
+    save(heap, next);
+    let made = a.answer;
+    tell(answer, commands::made(made))
+}
+
+// ---- readings
+
+// The row of the object that a word reaches, 0 for none.
+#[no_mangle]
+pub extern "C" fn mch_get(
+    heap: &[u64; 18],
+    slots: &[u64],
+    scalars: &[u64],
+    list: &[u64],
+    directory: &[u64],
+    cells: &[u64],
+    w: u64,
+    answer: &mut [u64; 6],
+) -> u64
+    requires { ⌜ Good (holds (now heap) (now slots) (now scalars) (now list) (now directory) (now cells)) ⌝ }
+    ensures { λ r. ⌜ Reads (Calls.get w) (holds (now (heap .entry)) (now (slots .entry)) (now (scalars .entry)) (now (list .entry)) (now (directory .entry)) (now (cells .entry))) r (now (answer .exit)) ⌝ }
+{
+    let h = load(heap);
+    let a = heap::get(h, slots, scalars, list, directory, cells, w);
+    tell(answer, commands::number(a))
+}
+
+// A word seen through a box.
+#[no_mangle]
+pub extern "C" fn mch_deref(
+    heap: &[u64; 18],
+    slots: &[u64],
+    scalars: &[u64],
+    list: &[u64],
+    directory: &[u64],
+    cells: &[u64],
+    w: u64,
+    answer: &mut [u64; 6],
+) -> u64
+    requires { ⌜ Good (holds (now heap) (now slots) (now scalars) (now list) (now directory) (now cells)) ⌝ }
+    ensures { λ r. ⌜ Reads (Calls.deref-word w) (holds (now (heap .entry)) (now (slots .entry)) (now (scalars .entry)) (now (list .entry)) (now (directory .entry)) (now (cells .entry))) r (now (answer .exit)) ⌝ }
+{
+    let h = load(heap);
+    let a = heap::deref(h, slots, scalars, list, directory, cells, w);
+    tell(answer, commands::number(a))
+}
+
+// The number of a word's kind.
+#[no_mangle]
+pub extern "C" fn mch_kind_of(
+    heap: &[u64; 18],
+    slots: &[u64],
+    scalars: &[u64],
+    list: &[u64],
+    directory: &[u64],
+    cells: &[u64],
+    w: u64,
+    answer: &mut [u64; 6],
+) -> u64
+    requires { ⌜ Good (holds (now heap) (now slots) (now scalars) (now list) (now directory) (now cells)) ⌝ }
+    ensures { λ r. ⌜ Reads (Calls.kind-of w) (holds (now (heap .entry)) (now (slots .entry)) (now (scalars .entry)) (now (list .entry)) (now (directory .entry)) (now (cells .entry))) r (now (answer .exit)) ⌝ }
+{
+    let h = load(heap);
+    let a = heap::kind_of(h, slots, scalars, list, directory, cells, w);
+    tell(answer, commands::kind(a))
+}
+
+// The length of a string in bytes.
+#[no_mangle]
+pub extern "C" fn mch_string_length(
+    heap: &[u64; 18],
+    slots: &[u64],
+    scalars: &[u64],
+    list: &[u64],
+    directory: &[u64],
+    cells: &[u64],
+    w: u64,
+    answer: &mut [u64; 6],
+) -> u64
+    requires { ⌜ Good (holds (now heap) (now slots) (now scalars) (now list) (now directory) (now cells)) ⌝ }
+    ensures { λ r. ⌜ Reads (Calls.string-length w) (holds (now (heap .entry)) (now (slots .entry)) (now (scalars .entry)) (now (list .entry)) (now (directory .entry)) (now (cells .entry))) r (now (answer .exit)) ⌝ }
+{
+    let h = load(heap);
+    let a = access::string_length(h, slots, scalars, list, directory, cells, w);
+    tell(answer, commands::reading(a))
+}
+
+// A string's bytes, in the buffer's first places; 8 where the buffer is shorter.
+#[no_mangle]
+pub extern "C" fn mch_read_string(
+    heap: &[u64; 18],
+    slots: &[u64],
+    scalars: &[u64],
+    list: &[u64],
+    directory: &[u64],
+    cells: &[u64],
+    w: u64,
+    buffer: &mut [u8],
+    answer: &mut [u64; 6],
+) -> u64
+    requires { ⌜ Good (holds (now heap) (now slots) (now scalars) (now list) (now directory) (now cells)) ⌝ }
+    ensures { λ r. ⌜ ((l : Layout) → ShowsList l (Calls.read-string w (now (buffer .entry))) (holds (now (heap .entry)) (now (slots .entry)) (now (scalars .entry)) (now (list .entry)) (now (directory .entry)) (now (cells .entry))) (told r (now (answer .exit))) (now (buffer .exit)) (holds (now (heap .entry)) (now (slots .entry)) (now (scalars .entry)) (now (list .entry)) (now (directory .entry)) (now (cells .entry)))) ⌝ }
+{
+    let h = load(heap);
+    let a = access::read_string(h, slots, scalars, list, directory, cells, w, buffer);
+    tell(answer, commands::reading(a))
+}
+
+// An integer object's number.
+#[no_mangle]
+pub extern "C" fn mch_read_integer(
+    heap: &[u64; 18],
+    slots: &[u64],
+    scalars: &[u64],
+    list: &[u64],
+    directory: &[u64],
+    cells: &[u64],
+    w: u64,
+    answer: &mut [u64; 6],
+) -> u64
+    requires { ⌜ Good (holds (now heap) (now slots) (now scalars) (now list) (now directory) (now cells)) ⌝ }
+    ensures { λ r. ⌜ Reads (Calls.read-integer w) (holds (now (heap .entry)) (now (slots .entry)) (now (scalars .entry)) (now (list .entry)) (now (directory .entry)) (now (cells .entry))) r (now (answer .exit)) ⌝ }
+{
+    let h = load(heap);
+    let a = access::read_integer(h, slots, scalars, list, directory, cells, w);
+    tell(answer, commands::signed(a))
+}
+
+// A cell's word.
+#[no_mangle]
+pub extern "C" fn mch_read_cell(
+    heap: &[u64; 18],
+    slots: &[u64],
+    scalars: &[u64],
+    list: &[u64],
+    directory: &[u64],
+    cells: &[u64],
+    w: u64,
+    answer: &mut [u64; 6],
+) -> u64
+    requires { ⌜ Good (holds (now heap) (now slots) (now scalars) (now list) (now directory) (now cells)) ⌝ }
+    ensures { λ r. ⌜ Reads (Calls.read-cell w) (holds (now (heap .entry)) (now (slots .entry)) (now (scalars .entry)) (now (list .entry)) (now (directory .entry)) (now (cells .entry))) r (now (answer .exit)) ⌝ }
+{
+    let h = load(heap);
+    let a = access::read_cell(h, slots, scalars, list, directory, cells, w);
+    tell(answer, commands::reading(a))
+}
+
+// A cell's type.
+#[no_mangle]
+pub extern "C" fn mch_cell_type(
+    heap: &[u64; 18],
+    slots: &[u64],
+    scalars: &[u64],
+    list: &[u64],
+    directory: &[u64],
+    cells: &[u64],
+    w: u64,
+    answer: &mut [u64; 6],
+) -> u64
+    requires { ⌜ Good (holds (now heap) (now slots) (now scalars) (now list) (now directory) (now cells)) ⌝ }
+    ensures { λ r. ⌜ Reads (Calls.cell-type w) (holds (now (heap .entry)) (now (slots .entry)) (now (scalars .entry)) (now (list .entry)) (now (directory .entry)) (now (cells .entry))) r (now (answer .exit)) ⌝ }
+{
+    let h = load(heap);
+    let a = access::cell_type(h, slots, scalars, list, directory, cells, w);
+    tell(answer, commands::reading(a))
+}
+
+// An error's kind.
+#[no_mangle]
+pub extern "C" fn mch_error_kind(
+    heap: &[u64; 18],
+    slots: &[u64],
+    scalars: &[u64],
+    list: &[u64],
+    directory: &[u64],
+    cells: &[u64],
+    w: u64,
+    answer: &mut [u64; 6],
+) -> u64
+    requires { ⌜ Good (holds (now heap) (now slots) (now scalars) (now list) (now directory) (now cells)) ⌝ }
+    ensures { λ r. ⌜ Reads (Calls.error-kind w) (holds (now (heap .entry)) (now (slots .entry)) (now (scalars .entry)) (now (list .entry)) (now (directory .entry)) (now (cells .entry))) r (now (answer .exit)) ⌝ }
+{
+    let h = load(heap);
+    let a = access::error_kind(h, slots, scalars, list, directory, cells, w);
+    tell(answer, commands::reading(a))
+}
+
+// An error's word.
+#[no_mangle]
+pub extern "C" fn mch_error_word(
+    heap: &[u64; 18],
+    slots: &[u64],
+    scalars: &[u64],
+    list: &[u64],
+    directory: &[u64],
+    cells: &[u64],
+    w: u64,
+    answer: &mut [u64; 6],
+) -> u64
+    requires { ⌜ Good (holds (now heap) (now slots) (now scalars) (now list) (now directory) (now cells)) ⌝ }
+    ensures { λ r. ⌜ Reads (Calls.error-word w) (holds (now (heap .entry)) (now (slots .entry)) (now (scalars .entry)) (now (list .entry)) (now (directory .entry)) (now (cells .entry))) r (now (answer .exit)) ⌝ }
+{
+    let h = load(heap);
+    let a = access::error_word(h, slots, scalars, list, directory, cells, w);
+    tell(answer, commands::reading(a))
+}
+
+// A box's word.
+#[no_mangle]
+pub extern "C" fn mch_read_box(
+    heap: &[u64; 18],
+    slots: &[u64],
+    scalars: &[u64],
+    list: &[u64],
+    directory: &[u64],
+    cells: &[u64],
+    w: u64,
+    answer: &mut [u64; 6],
+) -> u64
+    requires { ⌜ Good (holds (now heap) (now slots) (now scalars) (now list) (now directory) (now cells)) ⌝ }
+    ensures { λ r. ⌜ Reads (Calls.read-box w) (holds (now (heap .entry)) (now (slots .entry)) (now (scalars .entry)) (now (list .entry)) (now (directory .entry)) (now (cells .entry))) r (now (answer .exit)) ⌝ }
+{
+    let h = load(heap);
+    let a = access::read_box(h, slots, scalars, list, directory, cells, w);
+    tell(answer, commands::reading(a))
+}
+
+// The type of an array's items.
+#[no_mangle]
+pub extern "C" fn mch_array_type(
+    heap: &[u64; 18],
+    slots: &[u64],
+    scalars: &[u64],
+    list: &[u64],
+    directory: &[u64],
+    cells: &[u64],
+    w: u64,
+    answer: &mut [u64; 6],
+) -> u64
+    requires { ⌜ Good (holds (now heap) (now slots) (now scalars) (now list) (now directory) (now cells)) ⌝ }
+    ensures { λ r. ⌜ Reads (Calls.array-type w) (holds (now (heap .entry)) (now (slots .entry)) (now (scalars .entry)) (now (list .entry)) (now (directory .entry)) (now (cells .entry))) r (now (answer .exit)) ⌝ }
+{
+    let h = load(heap);
+    let a = access::array_type(h, slots, scalars, list, directory, cells, w);
+    tell(answer, commands::reading(a))
+}
+
+// The length of an array.
+#[no_mangle]
+pub extern "C" fn mch_array_length(
+    heap: &[u64; 18],
+    slots: &[u64],
+    scalars: &[u64],
+    list: &[u64],
+    directory: &[u64],
+    cells: &[u64],
+    w: u64,
+    answer: &mut [u64; 6],
+) -> u64
+    requires { ⌜ Good (holds (now heap) (now slots) (now scalars) (now list) (now directory) (now cells)) ⌝ }
+    ensures { λ r. ⌜ Reads (Calls.array-length w) (holds (now (heap .entry)) (now (slots .entry)) (now (scalars .entry)) (now (list .entry)) (now (directory .entry)) (now (cells .entry))) r (now (answer .exit)) ⌝ }
+{
+    let h = load(heap);
+    let a = access::array_length(h, slots, scalars, list, directory, cells, w);
+    tell(answer, commands::reading(a))
+}
+
+// The capacity of an array.
+#[no_mangle]
+pub extern "C" fn mch_array_capacity(
+    heap: &[u64; 18],
+    slots: &[u64],
+    scalars: &[u64],
+    list: &[u64],
+    directory: &[u64],
+    cells: &[u64],
+    w: u64,
+    answer: &mut [u64; 6],
+) -> u64
+    requires { ⌜ Good (holds (now heap) (now slots) (now scalars) (now list) (now directory) (now cells)) ⌝ }
+    ensures { λ r. ⌜ Reads (Calls.array-capacity w) (holds (now (heap .entry)) (now (slots .entry)) (now (scalars .entry)) (now (list .entry)) (now (directory .entry)) (now (cells .entry))) r (now (answer .exit)) ⌝ }
+{
+    let h = load(heap);
+    let a = access::array_capacity(h, slots, scalars, list, directory, cells, w);
+    tell(answer, commands::reading(a))
+}
+
+// Item `i` of an array, as it was stored.
+#[no_mangle]
+pub extern "C" fn mch_read_item(
+    heap: &[u64; 18],
+    slots: &[u64],
+    scalars: &[u64],
+    list: &[u64],
+    directory: &[u64],
+    cells: &[u64],
+    w: u64,
+    i: u64,
+    answer: &mut [u64; 6],
+) -> u64
+    requires { ⌜ Good (holds (now heap) (now slots) (now scalars) (now list) (now directory) (now cells)) ⌝ }
+    ensures { λ r. ⌜ Reads (Calls.read-item w i) (holds (now (heap .entry)) (now (slots .entry)) (now (scalars .entry)) (now (list .entry)) (now (directory .entry)) (now (cells .entry))) r (now (answer .exit)) ⌝ }
+{
+    let h = load(heap);
+    let a = access::read_item(h, slots, scalars, list, directory, cells, w, i);
+    tell(answer, commands::reading(a))
+}
+
+// A struct's type.
+#[no_mangle]
+pub extern "C" fn mch_struct_number(
+    heap: &[u64; 18],
+    slots: &[u64],
+    scalars: &[u64],
+    list: &[u64],
+    directory: &[u64],
+    cells: &[u64],
+    w: u64,
+    answer: &mut [u64; 6],
+) -> u64
+    requires { ⌜ Good (holds (now heap) (now slots) (now scalars) (now list) (now directory) (now cells)) ⌝ }
+    ensures { λ r. ⌜ Reads (Calls.struct-number w) (holds (now (heap .entry)) (now (slots .entry)) (now (scalars .entry)) (now (list .entry)) (now (directory .entry)) (now (cells .entry))) r (now (answer .exit)) ⌝ }
+{
+    let h = load(heap);
+    let a = access::struct_number(h, slots, scalars, list, directory, cells, w);
+    tell(answer, commands::reading(a))
+}
+
+// How many fields a struct has.
+#[no_mangle]
+pub extern "C" fn mch_field_count(
+    heap: &[u64; 18],
+    slots: &[u64],
+    scalars: &[u64],
+    list: &[u64],
+    directory: &[u64],
+    cells: &[u64],
+    w: u64,
+    answer: &mut [u64; 6],
+) -> u64
+    requires { ⌜ Good (holds (now heap) (now slots) (now scalars) (now list) (now directory) (now cells)) ⌝ }
+    ensures { λ r. ⌜ Reads (Calls.field-count w) (holds (now (heap .entry)) (now (slots .entry)) (now (scalars .entry)) (now (list .entry)) (now (directory .entry)) (now (cells .entry))) r (now (answer .exit)) ⌝ }
+{
+    let h = load(heap);
+    let a = access::field_count(h, slots, scalars, list, directory, cells, w);
+    tell(answer, commands::reading(a))
+}
+
+// Field `i` of a struct.
+#[no_mangle]
+pub extern "C" fn mch_read_field(
+    heap: &[u64; 18],
+    slots: &[u64],
+    scalars: &[u64],
+    list: &[u64],
+    directory: &[u64],
+    cells: &[u64],
+    w: u64,
+    i: u64,
+    answer: &mut [u64; 6],
+) -> u64
+    requires { ⌜ Good (holds (now heap) (now slots) (now scalars) (now list) (now directory) (now cells)) ⌝ }
+    ensures { λ r. ⌜ Reads (Calls.read-field w i) (holds (now (heap .entry)) (now (slots .entry)) (now (scalars .entry)) (now (list .entry)) (now (directory .entry)) (now (cells .entry))) r (now (answer .exit)) ⌝ }
+{
+    let h = load(heap);
+    let a = access::read_field(h, slots, scalars, list, directory, cells, w, i);
+    tell(answer, commands::reading(a))
+}
+
+// Whether a function is an import.
+#[no_mangle]
+pub extern "C" fn mch_is_import(
+    heap: &[u64; 18],
+    slots: &[u64],
+    scalars: &[u64],
+    list: &[u64],
+    directory: &[u64],
+    cells: &[u64],
+    w: u64,
+    answer: &mut [u64; 6],
+) -> u64
+    requires { ⌜ Good (holds (now heap) (now slots) (now scalars) (now list) (now directory) (now cells)) ⌝ }
+    ensures { λ r. ⌜ Reads (Calls.is-import w) (holds (now (heap .entry)) (now (slots .entry)) (now (scalars .entry)) (now (list .entry)) (now (directory .entry)) (now (cells .entry))) r (now (answer .exit)) ⌝ }
+{
+    let h = load(heap);
+    let a = access::is_import(h, slots, scalars, list, directory, cells, w);
+    tell(answer, commands::test(a))
+}
+
+// A function's number.
+#[no_mangle]
+pub extern "C" fn mch_function_number(
+    heap: &[u64; 18],
+    slots: &[u64],
+    scalars: &[u64],
+    list: &[u64],
+    directory: &[u64],
+    cells: &[u64],
+    w: u64,
+    answer: &mut [u64; 6],
+) -> u64
+    requires { ⌜ Good (holds (now heap) (now slots) (now scalars) (now list) (now directory) (now cells)) ⌝ }
+    ensures { λ r. ⌜ Reads (Calls.function-number w) (holds (now (heap .entry)) (now (slots .entry)) (now (scalars .entry)) (now (list .entry)) (now (directory .entry)) (now (cells .entry))) r (now (answer .exit)) ⌝ }
+{
+    let h = load(heap);
+    let a = access::function_number(h, slots, scalars, list, directory, cells, w);
+    tell(answer, commands::reading(a))
+}
+
+// How many captures a function has.
+#[no_mangle]
+pub extern "C" fn mch_capture_count(
+    heap: &[u64; 18],
+    slots: &[u64],
+    scalars: &[u64],
+    list: &[u64],
+    directory: &[u64],
+    cells: &[u64],
+    w: u64,
+    answer: &mut [u64; 6],
+) -> u64
+    requires { ⌜ Good (holds (now heap) (now slots) (now scalars) (now list) (now directory) (now cells)) ⌝ }
+    ensures { λ r. ⌜ Reads (Calls.capture-count w) (holds (now (heap .entry)) (now (slots .entry)) (now (scalars .entry)) (now (list .entry)) (now (directory .entry)) (now (cells .entry))) r (now (answer .exit)) ⌝ }
+{
+    let h = load(heap);
+    let a = access::capture_count(h, slots, scalars, list, directory, cells, w);
+    tell(answer, commands::reading(a))
+}
+
+// Capture `i` of a function.
+#[no_mangle]
+pub extern "C" fn mch_read_capture(
+    heap: &[u64; 18],
+    slots: &[u64],
+    scalars: &[u64],
+    list: &[u64],
+    directory: &[u64],
+    cells: &[u64],
+    w: u64,
+    i: u64,
+    answer: &mut [u64; 6],
+) -> u64
+    requires { ⌜ Good (holds (now heap) (now slots) (now scalars) (now list) (now directory) (now cells)) ⌝ }
+    ensures { λ r. ⌜ Reads (Calls.read-capture w i) (holds (now (heap .entry)) (now (slots .entry)) (now (scalars .entry)) (now (list .entry)) (now (directory .entry)) (now (cells .entry))) r (now (answer .exit)) ⌝ }
+{
+    let h = load(heap);
+    let a = access::read_capture(h, slots, scalars, list, directory, cells, w, i);
+    tell(answer, commands::reading(a))
+}
+
+// A coroutine's state.
+#[no_mangle]
+pub extern "C" fn mch_read_state(
+    heap: &[u64; 18],
+    slots: &[u64],
+    scalars: &[u64],
+    list: &[u64],
+    directory: &[u64],
+    cells: &[u64],
+    w: u64,
+    answer: &mut [u64; 6],
+) -> u64
+    requires { ⌜ Good (holds (now heap) (now slots) (now scalars) (now list) (now directory) (now cells)) ⌝ }
+    ensures { λ r. ⌜ Reads (Calls.read-state w) (holds (now (heap .entry)) (now (slots .entry)) (now (scalars .entry)) (now (list .entry)) (now (directory .entry)) (now (cells .entry))) r (now (answer .exit)) ⌝ }
+{
+    let h = load(heap);
+    let a = access::read_state(h, slots, scalars, list, directory, cells, w);
+    tell(answer, commands::reading(a))
+}
+
+// A coroutine's payload.
+#[no_mangle]
+pub extern "C" fn mch_read_payload(
+    heap: &[u64; 18],
+    slots: &[u64],
+    scalars: &[u64],
+    list: &[u64],
+    directory: &[u64],
+    cells: &[u64],
+    w: u64,
+    answer: &mut [u64; 6],
+) -> u64
+    requires { ⌜ Good (holds (now heap) (now slots) (now scalars) (now list) (now directory) (now cells)) ⌝ }
+    ensures { λ r. ⌜ Reads (Calls.read-part w Parts.payload) (holds (now (heap .entry)) (now (slots .entry)) (now (scalars .entry)) (now (list .entry)) (now (directory .entry)) (now (cells .entry))) r (now (answer .exit)) ⌝ }
+{
+    let h = load(heap);
+    let a = access::read_payload(h, slots, scalars, list, directory, cells, w);
+    tell(answer, commands::reading(a))
+}
+
+// A coroutine's key.
+#[no_mangle]
+pub extern "C" fn mch_read_key(
+    heap: &[u64; 18],
+    slots: &[u64],
+    scalars: &[u64],
+    list: &[u64],
+    directory: &[u64],
+    cells: &[u64],
+    w: u64,
+    answer: &mut [u64; 6],
+) -> u64
+    requires { ⌜ Good (holds (now heap) (now slots) (now scalars) (now list) (now directory) (now cells)) ⌝ }
+    ensures { λ r. ⌜ Reads (Calls.read-part w Parts.key) (holds (now (heap .entry)) (now (slots .entry)) (now (scalars .entry)) (now (list .entry)) (now (directory .entry)) (now (cells .entry))) r (now (answer .exit)) ⌝ }
+{
+    let h = load(heap);
+    let a = access::read_key(h, slots, scalars, list, directory, cells, w);
+    tell(answer, commands::reading(a))
+}
+
+// A coroutine's result.
+#[no_mangle]
+pub extern "C" fn mch_read_result(
+    heap: &[u64; 18],
+    slots: &[u64],
+    scalars: &[u64],
+    list: &[u64],
+    directory: &[u64],
+    cells: &[u64],
+    w: u64,
+    answer: &mut [u64; 6],
+) -> u64
+    requires { ⌜ Good (holds (now heap) (now slots) (now scalars) (now list) (now directory) (now cells)) ⌝ }
+    ensures { λ r. ⌜ Reads (Calls.read-part w Parts.result) (holds (now (heap .entry)) (now (slots .entry)) (now (scalars .entry)) (now (list .entry)) (now (directory .entry)) (now (cells .entry))) r (now (answer .exit)) ⌝ }
+{
+    let h = load(heap);
+    let a = access::read_result(h, slots, scalars, list, directory, cells, w);
+    tell(answer, commands::reading(a))
+}
+
+// A coroutine's signal.
+#[no_mangle]
+pub extern "C" fn mch_read_signal(
+    heap: &[u64; 18],
+    slots: &[u64],
+    scalars: &[u64],
+    list: &[u64],
+    directory: &[u64],
+    cells: &[u64],
+    w: u64,
+    answer: &mut [u64; 6],
+) -> u64
+    requires { ⌜ Good (holds (now heap) (now slots) (now scalars) (now list) (now directory) (now cells)) ⌝ }
+    ensures { λ r. ⌜ Reads (Calls.read-part w Parts.signal) (holds (now (heap .entry)) (now (slots .entry)) (now (scalars .entry)) (now (list .entry)) (now (directory .entry)) (now (cells .entry))) r (now (answer .exit)) ⌝ }
+{
+    let h = load(heap);
+    let a = access::read_signal(h, slots, scalars, list, directory, cells, w);
+    tell(answer, commands::reading(a))
+}
+
+// A coroutine's sequence number.
+#[no_mangle]
+pub extern "C" fn mch_coroutine_sequence(
+    heap: &[u64; 18],
+    slots: &[u64],
+    scalars: &[u64],
+    list: &[u64],
+    directory: &[u64],
+    cells: &[u64],
+    w: u64,
+    answer: &mut [u64; 6],
+) -> u64
+    requires { ⌜ Good (holds (now heap) (now slots) (now scalars) (now list) (now directory) (now cells)) ⌝ }
+    ensures { λ r. ⌜ Reads (Calls.coroutine-sequence w) (holds (now (heap .entry)) (now (slots .entry)) (now (scalars .entry)) (now (list .entry)) (now (directory .entry)) (now (cells .entry))) r (now (answer .exit)) ⌝ }
+{
+    let h = load(heap);
+    let a = access::coroutine_sequence(h, slots, scalars, list, directory, cells, w);
+    tell(answer, commands::reading(a))
+}
+
+// Whether a coroutine is finalized.
+#[no_mangle]
+pub extern "C" fn mch_coroutine_finalized(
+    heap: &[u64; 18],
+    slots: &[u64],
+    scalars: &[u64],
+    list: &[u64],
+    directory: &[u64],
+    cells: &[u64],
+    w: u64,
+    answer: &mut [u64; 6],
+) -> u64
+    requires { ⌜ Good (holds (now heap) (now slots) (now scalars) (now list) (now directory) (now cells)) ⌝ }
+    ensures { λ r. ⌜ Reads (Calls.coroutine-finalized w) (holds (now (heap .entry)) (now (slots .entry)) (now (scalars .entry)) (now (list .entry)) (now (directory .entry)) (now (cells .entry))) r (now (answer .exit)) ⌝ }
+{
+    let h = load(heap);
+    let a = access::coroutine_finalized(h, slots, scalars, list, directory, cells, w);
+    tell(answer, commands::test(a))
+}
+
+// How many registers a coroutine has.
+#[no_mangle]
+pub extern "C" fn mch_register_count(
+    heap: &[u64; 18],
+    slots: &[u64],
+    scalars: &[u64],
+    list: &[u64],
+    directory: &[u64],
+    cells: &[u64],
+    w: u64,
+    answer: &mut [u64; 6],
+) -> u64
+    requires { ⌜ Good (holds (now heap) (now slots) (now scalars) (now list) (now directory) (now cells)) ⌝ }
+    ensures { λ r. ⌜ Reads (Calls.register-count w) (holds (now (heap .entry)) (now (slots .entry)) (now (scalars .entry)) (now (list .entry)) (now (directory .entry)) (now (cells .entry))) r (now (answer .exit)) ⌝ }
+{
+    let h = load(heap);
+    let a = access::register_count(h, slots, scalars, list, directory, cells, w);
+    tell(answer, commands::reading(a))
+}
+
+// How many frames a coroutine has.
+#[no_mangle]
+pub extern "C" fn mch_frame_count(
+    heap: &[u64; 18],
+    slots: &[u64],
+    scalars: &[u64],
+    list: &[u64],
+    directory: &[u64],
+    cells: &[u64],
+    w: u64,
+    answer: &mut [u64; 6],
+) -> u64
+    requires { ⌜ Good (holds (now heap) (now slots) (now scalars) (now list) (now directory) (now cells)) ⌝ }
+    ensures { λ r. ⌜ Reads (Calls.frame-count w) (holds (now (heap .entry)) (now (slots .entry)) (now (scalars .entry)) (now (list .entry)) (now (directory .entry)) (now (cells .entry))) r (now (answer .exit)) ⌝ }
+{
+    let h = load(heap);
+    let a = access::frame_count(h, slots, scalars, list, directory, cells, w);
+    tell(answer, commands::reading(a))
+}
+
+// Frame `i` of a coroutine.
+#[no_mangle]
+pub extern "C" fn mch_read_frame(
+    heap: &[u64; 18],
+    slots: &[u64],
+    scalars: &[u64],
+    list: &[u64],
+    directory: &[u64],
+    cells: &[u64],
+    w: u64,
+    i: u64,
+    answer: &mut [u64; 6],
+) -> u64
+    requires { ⌜ Good (holds (now heap) (now slots) (now scalars) (now list) (now directory) (now cells)) ⌝ }
+    ensures { λ r. ⌜ Reads (Calls.read-frame w i) (holds (now (heap .entry)) (now (slots .entry)) (now (scalars .entry)) (now (list .entry)) (now (directory .entry)) (now (cells .entry))) r (now (answer .exit)) ⌝ }
+{
+    let h = load(heap);
+    let a = access::read_frame(h, slots, scalars, list, directory, cells, w, i);
+    tell(answer, commands::frame(a))
+}
+
+// Register `i` of a coroutine.
+#[no_mangle]
+pub extern "C" fn mch_read_register(
+    heap: &[u64; 18],
+    slots: &[u64],
+    scalars: &[u64],
+    list: &[u64],
+    directory: &[u64],
+    cells: &[u64],
+    w: u64,
+    i: u64,
+    answer: &mut [u64; 6],
+) -> u64
+    requires { ⌜ Good (holds (now heap) (now slots) (now scalars) (now list) (now directory) (now cells)) ⌝ }
+    ensures { λ r. ⌜ Reads (Calls.read-register w i) (holds (now (heap .entry)) (now (slots .entry)) (now (scalars .entry)) (now (list .entry)) (now (directory .entry)) (now (cells .entry))) r (now (answer .exit)) ⌝ }
+{
+    let h = load(heap);
+    let a = access::read_register(h, slots, scalars, list, directory, cells, w, i);
+    tell(answer, commands::reading(a))
+}
+
+// ---- stores, and arrays that grow and shrink
+
+// A new word for a cell.
+#[no_mangle]
+pub extern "C" fn mch_store_cell(
+    heap: &[u64; 18],
+    slots: &mut [u64],
+    scalars: &[u64],
+    list: &[u64],
+    directory: &[u64],
+    cells: &[u64],
+    w: u64,
+    v: u64,
+    answer: &mut [u64; 6],
+) -> u64
+    requires { ⌜ Good (holds (now heap) (now slots) (now scalars) (now list) (now directory) (now cells)) ⌝ }
+    ensures { λ r. ⌜ Performs (Calls.store-cell w v) (holds (now (heap .entry)) (now (slots .entry)) (now (scalars .entry)) (now (list .entry)) (now (directory .entry)) (now (cells .entry))) r (now (answer .exit)) (holds (now (heap .entry)) (now (slots .exit)) (now (scalars .entry)) (now (list .entry)) (now (directory .entry)) (now (cells .entry))) ⌝ }
+{
+    let h = load(heap);
+    let a = access::store_cell(h, slots, scalars, list, directory, cells, w, v);
+    tell(answer, commands::done(a))
+}
+
+// A new word for a box.
+#[no_mangle]
+pub extern "C" fn mch_store_box(
+    heap: &[u64; 18],
+    slots: &mut [u64],
+    scalars: &[u64],
+    list: &[u64],
+    directory: &[u64],
+    cells: &[u64],
+    w: u64,
+    v: u64,
+    answer: &mut [u64; 6],
+) -> u64
+    requires { ⌜ Good (holds (now heap) (now slots) (now scalars) (now list) (now directory) (now cells)) ⌝ }
+    ensures { λ r. ⌜ Performs (Calls.store-box w v) (holds (now (heap .entry)) (now (slots .entry)) (now (scalars .entry)) (now (list .entry)) (now (directory .entry)) (now (cells .entry))) r (now (answer .exit)) (holds (now (heap .entry)) (now (slots .exit)) (now (scalars .entry)) (now (list .entry)) (now (directory .entry)) (now (cells .entry))) ⌝ }
+{
+    let h = load(heap);
+    let a = access::store_box(h, slots, scalars, list, directory, cells, w, v);
+    tell(answer, commands::done(a))
+}
+
+// A new item at `i`; outside the length nothing changes.
+#[no_mangle]
+pub extern "C" fn mch_store_item(
+    heap: &[u64; 18],
+    slots: &[u64],
+    scalars: &[u64],
+    list: &[u64],
+    directory: &[u64],
+    cells: &mut [u64],
+    w: u64,
+    i: u64,
+    v: u64,
+    answer: &mut [u64; 6],
+) -> u64
+    requires { ⌜ Good (holds (now heap) (now slots) (now scalars) (now list) (now directory) (now cells)) ⌝ }
+    ensures { λ r. ⌜ Performs (Calls.store-item w i v) (holds (now (heap .entry)) (now (slots .entry)) (now (scalars .entry)) (now (list .entry)) (now (directory .entry)) (now (cells .entry))) r (now (answer .exit)) (holds (now (heap .entry)) (now (slots .entry)) (now (scalars .entry)) (now (list .entry)) (now (directory .entry)) (now (cells .exit))) ⌝ }
+{
+    let h = load(heap);
+    let a = access::store_item(h, slots, scalars, list, directory, cells, w, i, v);
+    tell(answer, commands::done(a))
+}
+
+// An item behind the last of an array.
+#[no_mangle]
+pub extern "C" fn mch_push(
+    heap: &mut [u64; 18],
+    slots: &mut [u64],
+    scalars: &[u64],
+    list: &[u64],
+    directory: &mut [u64],
+    cells: &mut [u64],
+    w: u64,
+    v: u64,
+    answer: &mut [u64; 6],
+) -> u64
+    requires { ⌜ Good (holds (now heap) (now slots) (now scalars) (now list) (now directory) (now cells)) ⌝ }
+    ensures { λ r. ⌜ Performs (Calls.push w v) (holds (now (heap .entry)) (now (slots .entry)) (now (scalars .entry)) (now (list .entry)) (now (directory .entry)) (now (cells .entry))) r (now (answer .exit)) (holds (now (heap .exit)) (now (slots .exit)) (now (scalars .entry)) (now (list .entry)) (now (directory .exit)) (now (cells .exit))) ⌝ }
+{
+    let h = load(heap);
+    let a = collections::push(h, slots, scalars, list, directory, cells, w, v);
+    let next = a.heap;
+    save(heap, next);
+    let done = a.done;
+    tell(answer, commands::done(done))
+}
+
+// The last item of an array, taken off.
+#[no_mangle]
+pub extern "C" fn mch_pop(
+    heap: &[u64; 18],
+    slots: &mut [u64],
+    scalars: &[u64],
+    list: &[u64],
+    directory: &[u64],
+    cells: &[u64],
+    w: u64,
+    answer: &mut [u64; 6],
+) -> u64
+    requires { ⌜ Good (holds (now heap) (now slots) (now scalars) (now list) (now directory) (now cells)) ⌝ }
+    ensures { λ r. ⌜ Performs (Calls.pop w) (holds (now (heap .entry)) (now (slots .entry)) (now (scalars .entry)) (now (list .entry)) (now (directory .entry)) (now (cells .entry))) r (now (answer .exit)) (holds (now (heap .entry)) (now (slots .exit)) (now (scalars .entry)) (now (list .entry)) (now (directory .entry)) (now (cells .entry))) ⌝ }
+{
+    let h = load(heap);
+    let a = collections::pop(h, slots, scalars, list, directory, cells, w);
+    tell(answer, commands::reading(a))
+}
+
+// A new word for field `i` of a struct.
+#[no_mangle]
+pub extern "C" fn mch_store_field(
+    heap: &[u64; 18],
+    slots: &[u64],
+    scalars: &[u64],
+    list: &[u64],
+    directory: &[u64],
+    cells: &mut [u64],
+    w: u64,
+    i: u64,
+    v: u64,
+    answer: &mut [u64; 6],
+) -> u64
+    requires { ⌜ Good (holds (now heap) (now slots) (now scalars) (now list) (now directory) (now cells)) ⌝ }
+    ensures { λ r. ⌜ Performs (Calls.store-field w i v) (holds (now (heap .entry)) (now (slots .entry)) (now (scalars .entry)) (now (list .entry)) (now (directory .entry)) (now (cells .entry))) r (now (answer .exit)) (holds (now (heap .entry)) (now (slots .entry)) (now (scalars .entry)) (now (list .entry)) (now (directory .entry)) (now (cells .exit))) ⌝ }
+{
+    let h = load(heap);
+    let a = access::store_field(h, slots, scalars, list, directory, cells, w, i, v);
+    tell(answer, commands::done(a))
+}
+
+// A new word for capture `i` of a function.
+#[no_mangle]
+pub extern "C" fn mch_store_capture(
+    heap: &[u64; 18],
+    slots: &[u64],
+    scalars: &[u64],
+    list: &[u64],
+    directory: &[u64],
+    cells: &mut [u64],
+    w: u64,
+    i: u64,
+    v: u64,
+    answer: &mut [u64; 6],
+) -> u64
+    requires { ⌜ Good (holds (now heap) (now slots) (now scalars) (now list) (now directory) (now cells)) ⌝ }
+    ensures { λ r. ⌜ Performs (Calls.store-capture w i v) (holds (now (heap .entry)) (now (slots .entry)) (now (scalars .entry)) (now (list .entry)) (now (directory .entry)) (now (cells .entry))) r (now (answer .exit)) (holds (now (heap .entry)) (now (slots .entry)) (now (scalars .entry)) (now (list .entry)) (now (directory .entry)) (now (cells .exit))) ⌝ }
+{
+    let h = load(heap);
+    let a = access::store_capture(h, slots, scalars, list, directory, cells, w, i, v);
+    tell(answer, commands::done(a))
+}
+
+// A new word for register `i` of a coroutine.
+#[no_mangle]
+pub extern "C" fn mch_store_register(
+    heap: &[u64; 18],
+    slots: &[u64],
+    scalars: &[u64],
+    list: &[u64],
+    directory: &[u64],
+    cells: &mut [u64],
+    w: u64,
+    i: u64,
+    v: u64,
+    answer: &mut [u64; 6],
+) -> u64
+    requires { ⌜ Good (holds (now heap) (now slots) (now scalars) (now list) (now directory) (now cells)) ⌝ }
+    ensures { λ r. ⌜ Performs (Calls.store-register w i v) (holds (now (heap .entry)) (now (slots .entry)) (now (scalars .entry)) (now (list .entry)) (now (directory .entry)) (now (cells .entry))) r (now (answer .exit)) (holds (now (heap .entry)) (now (slots .entry)) (now (scalars .entry)) (now (list .entry)) (now (directory .entry)) (now (cells .exit))) ⌝ }
+{
+    let h = load(heap);
+    let a = access::store_register(h, slots, scalars, list, directory, cells, w, i, v);
+    tell(answer, commands::done(a))
+}
+
+// A new payload for a coroutine.
+#[no_mangle]
+pub extern "C" fn mch_store_payload(
+    heap: &[u64; 18],
+    slots: &[u64],
+    scalars: &mut [u64],
+    list: &[u64],
+    directory: &[u64],
+    cells: &[u64],
+    w: u64,
+    v: u64,
+    answer: &mut [u64; 6],
+) -> u64
+    requires { ⌜ Good (holds (now heap) (now slots) (now scalars) (now list) (now directory) (now cells)) ⌝ }
+    ensures { λ r. ⌜ Performs (Calls.store-part w Parts.payload v) (holds (now (heap .entry)) (now (slots .entry)) (now (scalars .entry)) (now (list .entry)) (now (directory .entry)) (now (cells .entry))) r (now (answer .exit)) (holds (now (heap .entry)) (now (slots .entry)) (now (scalars .exit)) (now (list .entry)) (now (directory .entry)) (now (cells .entry))) ⌝ }
+{
+    let h = load(heap);
+    let a = access::store_payload(h, slots, scalars, list, directory, cells, w, v);
+    tell(answer, commands::done(a))
+}
+
+// A new key for a coroutine.
+#[no_mangle]
+pub extern "C" fn mch_store_key(
+    heap: &[u64; 18],
+    slots: &[u64],
+    scalars: &mut [u64],
+    list: &[u64],
+    directory: &[u64],
+    cells: &[u64],
+    w: u64,
+    v: u64,
+    answer: &mut [u64; 6],
+) -> u64
+    requires { ⌜ Good (holds (now heap) (now slots) (now scalars) (now list) (now directory) (now cells)) ⌝ }
+    ensures { λ r. ⌜ Performs (Calls.store-part w Parts.key v) (holds (now (heap .entry)) (now (slots .entry)) (now (scalars .entry)) (now (list .entry)) (now (directory .entry)) (now (cells .entry))) r (now (answer .exit)) (holds (now (heap .entry)) (now (slots .entry)) (now (scalars .exit)) (now (list .entry)) (now (directory .entry)) (now (cells .entry))) ⌝ }
+{
+    let h = load(heap);
+    let a = access::store_key(h, slots, scalars, list, directory, cells, w, v);
+    tell(answer, commands::done(a))
+}
+
+// A new result for a coroutine.
+#[no_mangle]
+pub extern "C" fn mch_store_result(
+    heap: &[u64; 18],
+    slots: &[u64],
+    scalars: &mut [u64],
+    list: &[u64],
+    directory: &[u64],
+    cells: &[u64],
+    w: u64,
+    v: u64,
+    answer: &mut [u64; 6],
+) -> u64
+    requires { ⌜ Good (holds (now heap) (now slots) (now scalars) (now list) (now directory) (now cells)) ⌝ }
+    ensures { λ r. ⌜ Performs (Calls.store-part w Parts.result v) (holds (now (heap .entry)) (now (slots .entry)) (now (scalars .entry)) (now (list .entry)) (now (directory .entry)) (now (cells .entry))) r (now (answer .exit)) (holds (now (heap .entry)) (now (slots .entry)) (now (scalars .exit)) (now (list .entry)) (now (directory .entry)) (now (cells .entry))) ⌝ }
+{
+    let h = load(heap);
+    let a = access::store_result(h, slots, scalars, list, directory, cells, w, v);
+    tell(answer, commands::done(a))
+}
+
+// A new signal for a coroutine.
+#[no_mangle]
+pub extern "C" fn mch_store_signal(
+    heap: &[u64; 18],
+    slots: &[u64],
+    scalars: &mut [u64],
+    list: &[u64],
+    directory: &[u64],
+    cells: &[u64],
+    w: u64,
+    v: u64,
+    answer: &mut [u64; 6],
+) -> u64
+    requires { ⌜ Good (holds (now heap) (now slots) (now scalars) (now list) (now directory) (now cells)) ⌝ }
+    ensures { λ r. ⌜ Performs (Calls.store-part w Parts.signal v) (holds (now (heap .entry)) (now (slots .entry)) (now (scalars .entry)) (now (list .entry)) (now (directory .entry)) (now (cells .entry))) r (now (answer .exit)) (holds (now (heap .entry)) (now (slots .entry)) (now (scalars .exit)) (now (list .entry)) (now (directory .entry)) (now (cells .entry))) ⌝ }
+{
+    let h = load(heap);
+    let a = access::store_signal(h, slots, scalars, list, directory, cells, w, v);
+    tell(answer, commands::done(a))
+}
+
+// A new state for a coroutine.
+#[no_mangle]
+pub extern "C" fn mch_set_state(
+    heap: &[u64; 18],
+    slots: &mut [u64],
+    scalars: &[u64],
+    list: &[u64],
+    directory: &[u64],
+    cells: &[u64],
+    w: u64,
+    s: u64,
+    answer: &mut [u64; 6],
+) -> u64
+    requires { ⌜ Good (holds (now heap) (now slots) (now scalars) (now list) (now directory) (now cells)) ⌝ }
+    ensures { λ r. ⌜ Performs (Calls.set-state w s) (holds (now (heap .entry)) (now (slots .entry)) (now (scalars .entry)) (now (list .entry)) (now (directory .entry)) (now (cells .entry))) r (now (answer .exit)) (holds (now (heap .entry)) (now (slots .exit)) (now (scalars .entry)) (now (list .entry)) (now (directory .entry)) (now (cells .entry))) ⌝ }
+{
+    let h = load(heap);
+    let a = access::set_state(h, slots, scalars, list, directory, cells, w, s);
+    tell(answer, commands::done(a))
+}
+
+// ---- maps and iterators
+
+// The value of a key: overwritten where the key is found, else an entry is added.
+#[no_mangle]
+pub extern "C" fn mch_put(
+    heap: &mut [u64; 18],
+    slots: &mut [u64],
+    scalars: &mut [u64],
+    list: &[u64],
+    directory: &mut [u64],
+    cells: &mut [u64],
+    w: u64,
+    hash: u64,
+    key: u64,
+    value: u64,
+    answer: &mut [u64; 6],
+) -> u64
+    requires { ⌜ Good (holds (now heap) (now slots) (now scalars) (now list) (now directory) (now cells)) ⌝ }
+    ensures { λ r. ⌜ Performs (Calls.put w hash key value) (holds (now (heap .entry)) (now (slots .entry)) (now (scalars .entry)) (now (list .entry)) (now (directory .entry)) (now (cells .entry))) r (now (answer .exit)) (holds (now (heap .exit)) (now (slots .exit)) (now (scalars .exit)) (now (list .entry)) (now (directory .exit)) (now (cells .exit))) ⌝ }
+{
+    let h = load(heap);
+    let a = collections::put(
+        h,
+        slots,
+        scalars,
+        list,
+        directory,
+        cells,
+        w,
+        hash,
+        key,
+        value,
+    );
+    let next = a.heap;
+    save(heap, next);
+    let done = a.done;
+    tell(answer, commands::done(done))
+}
+
+// An entry added, whatever is there.
+#[no_mangle]
+pub extern "C" fn mch_insert_entry(
+    heap: &mut [u64; 18],
+    slots: &mut [u64],
+    scalars: &mut [u64],
+    list: &[u64],
+    directory: &mut [u64],
+    cells: &mut [u64],
+    w: u64,
+    hash: u64,
+    key: u64,
+    value: u64,
+    answer: &mut [u64; 6],
+) -> u64
+    requires { ⌜ Good (holds (now heap) (now slots) (now scalars) (now list) (now directory) (now cells)) ⌝ }
+    ensures { λ r. ⌜ Performs (Calls.insert-entry w hash key value) (holds (now (heap .entry)) (now (slots .entry)) (now (scalars .entry)) (now (list .entry)) (now (directory .entry)) (now (cells .entry))) r (now (answer .exit)) (holds (now (heap .exit)) (now (slots .exit)) (now (scalars .exit)) (now (list .entry)) (now (directory .exit)) (now (cells .exit))) ⌝ }
+{
+    let h = load(heap);
+    let a = collections::insert_entry(
+        h,
+        slots,
+        scalars,
+        list,
+        directory,
+        cells,
+        w,
+        hash,
+        key,
+        value,
+    );
+    let next = a.heap;
+    save(heap, next);
+    let done = a.done;
+    tell(answer, commands::done(done))
+}
+
+// The position of a key.
+#[no_mangle]
+pub extern "C" fn mch_find(
+    heap: &[u64; 18],
+    slots: &[u64],
+    scalars: &[u64],
+    list: &[u64],
+    directory: &[u64],
+    cells: &[u64],
+    w: u64,
+    hash: u64,
+    key: u64,
+    answer: &mut [u64; 6],
+) -> u64
+    requires { ⌜ Good (holds (now heap) (now slots) (now scalars) (now list) (now directory) (now cells)) ⌝ }
+    ensures { λ r. ⌜ Reads (Calls.find w hash key) (holds (now (heap .entry)) (now (slots .entry)) (now (scalars .entry)) (now (list .entry)) (now (directory .entry)) (now (cells .entry))) r (now (answer .exit)) ⌝ }
+{
+    let h = load(heap);
+    let a = collections::find(h, slots, scalars, list, directory, cells, w, hash, key);
+    tell(answer, commands::perhaps(a))
+}
+
+// The entry of a key removed.
+#[no_mangle]
+pub extern "C" fn mch_remove(
+    heap: &mut [u64; 18],
+    slots: &mut [u64],
+    scalars: &mut [u64],
+    list: &[u64],
+    directory: &mut [u64],
+    cells: &mut [u64],
+    w: u64,
+    hash: u64,
+    key: u64,
+    answer: &mut [u64; 6],
+) -> u64
+    requires { ⌜ Good (holds (now heap) (now slots) (now scalars) (now list) (now directory) (now cells)) ⌝ }
+    ensures { λ r. ⌜ Performs (Calls.remove w hash key) (holds (now (heap .entry)) (now (slots .entry)) (now (scalars .entry)) (now (list .entry)) (now (directory .entry)) (now (cells .entry))) r (now (answer .exit)) (holds (now (heap .exit)) (now (slots .exit)) (now (scalars .exit)) (now (list .entry)) (now (directory .exit)) (now (cells .exit))) ⌝ }
+{
+    let h = load(heap);
+    let a = collections::remove(h, slots, scalars, list, directory, cells, w, hash, key);
+    let next = a.heap;
+    save(heap, next);
+    let done = a.done;
+    tell(answer, commands::done(done))
+}
+
+// The entry at a position removed.
+#[no_mangle]
+pub extern "C" fn mch_remove_at(
+    heap: &mut [u64; 18],
+    slots: &mut [u64],
+    scalars: &mut [u64],
+    list: &[u64],
+    directory: &mut [u64],
+    cells: &mut [u64],
+    w: u64,
+    pos: u64,
+    answer: &mut [u64; 6],
+) -> u64
+    requires { ⌜ Good (holds (now heap) (now slots) (now scalars) (now list) (now directory) (now cells)) ⌝ }
+    ensures { λ r. ⌜ Performs (Calls.remove-at w pos) (holds (now (heap .entry)) (now (slots .entry)) (now (scalars .entry)) (now (list .entry)) (now (directory .entry)) (now (cells .entry))) r (now (answer .exit)) (holds (now (heap .exit)) (now (slots .exit)) (now (scalars .exit)) (now (list .entry)) (now (directory .exit)) (now (cells .exit))) ⌝ }
+{
+    let h = load(heap);
+    let a = collections::remove_at(h, slots, scalars, list, directory, cells, w, pos);
+    let next = a.heap;
+    save(heap, next);
+    let done = a.done;
+    tell(answer, commands::done(done))
+}
+
+// The entry at a position, live or dead.
+#[no_mangle]
+pub extern "C" fn mch_read_entry(
+    heap: &[u64; 18],
+    slots: &[u64],
+    scalars: &[u64],
+    list: &[u64],
+    directory: &[u64],
+    cells: &[u64],
+    w: u64,
+    pos: u64,
+    answer: &mut [u64; 6],
+) -> u64
+    requires { ⌜ Good (holds (now heap) (now slots) (now scalars) (now list) (now directory) (now cells)) ⌝ }
+    ensures { λ r. ⌜ Reads (Calls.read-entry w pos) (holds (now (heap .entry)) (now (slots .entry)) (now (scalars .entry)) (now (list .entry)) (now (directory .entry)) (now (cells .entry))) r (now (answer .exit)) ⌝ }
+{
+    let h = load(heap);
+    let a = collections::read_entry(h, slots, scalars, list, directory, cells, w, pos);
+    tell(answer, commands::entry(a))
+}
+
+// A new value at a position; outside nothing changes.
+#[no_mangle]
+pub extern "C" fn mch_set_value(
+    heap: &[u64; 18],
+    slots: &[u64],
+    scalars: &[u64],
+    list: &[u64],
+    directory: &[u64],
+    cells: &mut [u64],
+    w: u64,
+    pos: u64,
+    v: u64,
+    answer: &mut [u64; 6],
+) -> u64
+    requires { ⌜ Good (holds (now heap) (now slots) (now scalars) (now list) (now directory) (now cells)) ⌝ }
+    ensures { λ r. ⌜ Performs (Calls.set-value w pos v) (holds (now (heap .entry)) (now (slots .entry)) (now (scalars .entry)) (now (list .entry)) (now (directory .entry)) (now (cells .entry))) r (now (answer .exit)) (holds (now (heap .entry)) (now (slots .entry)) (now (scalars .entry)) (now (list .entry)) (now (directory .entry)) (now (cells .exit))) ⌝ }
+{
+    let h = load(heap);
+    let a = collections::set_value(h, slots, scalars, list, directory, cells, w, pos, v);
+    tell(answer, commands::done(a))
+}
+
+// The integer key `k` noted.
+#[no_mangle]
+pub extern "C" fn mch_note(
+    heap: &[u64; 18],
+    slots: &mut [u64],
+    scalars: &mut [u64],
+    list: &[u64],
+    directory: &[u64],
+    cells: &[u64],
+    w: u64,
+    k: i64,
+    answer: &mut [u64; 6],
+) -> u64
+    requires { ⌜ Good (holds (now heap) (now slots) (now scalars) (now list) (now directory) (now cells)) ⌝ }
+    ensures { λ r. ⌜ Performs (Calls.note w k) (holds (now (heap .entry)) (now (slots .entry)) (now (scalars .entry)) (now (list .entry)) (now (directory .entry)) (now (cells .entry))) r (now (answer .exit)) (holds (now (heap .entry)) (now (slots .exit)) (now (scalars .exit)) (now (list .entry)) (now (directory .entry)) (now (cells .entry))) ⌝ }
+{
+    let h = load(heap);
+    let a = collections::note(h, slots, scalars, list, directory, cells, w, k);
+    tell(answer, commands::done(a))
+}
+
+// The integer key after the greatest noted one.
+#[no_mangle]
+pub extern "C" fn mch_next_key(
+    heap: &[u64; 18],
+    slots: &[u64],
+    scalars: &[u64],
+    list: &[u64],
+    directory: &[u64],
+    cells: &[u64],
+    w: u64,
+    answer: &mut [u64; 6],
+) -> u64
+    requires { ⌜ Good (holds (now heap) (now slots) (now scalars) (now list) (now directory) (now cells)) ⌝ }
+    ensures { λ r. ⌜ Reads (Calls.next-key w) (holds (now (heap .entry)) (now (slots .entry)) (now (scalars .entry)) (now (list .entry)) (now (directory .entry)) (now (cells .entry))) r (now (answer .exit)) ⌝ }
+{
+    let h = load(heap);
+    let a = collections::next_key(h, slots, scalars, list, directory, cells, w);
+    tell(answer, commands::next_int(a))
+}
+
+// The greatest noted key.
+#[no_mangle]
+pub extern "C" fn mch_noted_key(
+    heap: &[u64; 18],
+    slots: &[u64],
+    scalars: &[u64],
+    list: &[u64],
+    directory: &[u64],
+    cells: &[u64],
+    w: u64,
+    answer: &mut [u64; 6],
+) -> u64
+    requires { ⌜ Good (holds (now heap) (now slots) (now scalars) (now list) (now directory) (now cells)) ⌝ }
+    ensures { λ r. ⌜ Reads (Calls.noted-key w) (holds (now (heap .entry)) (now (slots .entry)) (now (scalars .entry)) (now (list .entry)) (now (directory .entry)) (now (cells .entry))) r (now (answer .exit)) ⌝ }
+{
+    let h = load(heap);
+    let a = collections::noted_key(h, slots, scalars, list, directory, cells, w);
+    tell(answer, commands::noted(a))
+}
+
+// The next live entry's position, or the end. The lent cursor is yielded yet, last sequence
+// number, position, epoch; a refusal leaves it as it was.
+#[no_mangle]
+pub extern "C" fn mch_next(
+    heap: &[u64; 18],
+    slots: &[u64],
+    scalars: &[u64],
+    list: &[u64],
+    directory: &[u64],
+    cells: &[u64],
+    w: u64,
+    cursor: &mut [u64; 4],
+    answer: &mut [u64; 6],
+) -> u64
+    requires { ⌜ Good (holds (now heap) (now slots) (now scalars) (now list) (now directory) (now cells)) ⌝ }
+    ensures { λ r. ⌜ Reads (Calls.next w (cursorIn (now (cursor .entry)))) (holds (now (heap .entry)) (now (slots .entry)) (now (scalars .entry)) (now (list .entry)) (now (directory .entry)) (now (cells .entry))) r (now (answer .exit)) ⌝ }
+    ensures { λ r. ⌜ now (cursor .exit) ≡ cursorOut (told r (now (answer .exit))) (now (cursor .entry)) ⌝ }
+{
+    let h = load(heap);
+    let c = load_cursor(cursor);
+    let a = collections::step_cursor(h, slots, scalars, list, directory, cells, w, c);
+    let s = commands::moved(c, a);
+    save_cursor(cursor, s);
+    tell(answer, s)
+}
+
+// How many live entries a map has.
+#[no_mangle]
+pub extern "C" fn mch_live_count(
+    heap: &[u64; 18],
+    slots: &[u64],
+    scalars: &[u64],
+    list: &[u64],
+    directory: &[u64],
+    cells: &[u64],
+    w: u64,
+    answer: &mut [u64; 6],
+) -> u64
+    requires { ⌜ Good (holds (now heap) (now slots) (now scalars) (now list) (now directory) (now cells)) ⌝ }
+    ensures { λ r. ⌜ Reads (Calls.live-count w) (holds (now (heap .entry)) (now (slots .entry)) (now (scalars .entry)) (now (list .entry)) (now (directory .entry)) (now (cells .entry))) r (now (answer .exit)) ⌝ }
+{
+    let h = load(heap);
+    let a = collections::live_count(h, slots, scalars, list, directory, cells, w);
+    tell(answer, commands::reading(a))
+}
+
+// How many places a map has, dead ones included.
+#[no_mangle]
+pub extern "C" fn mch_place_count(
+    heap: &[u64; 18],
+    slots: &[u64],
+    scalars: &[u64],
+    list: &[u64],
+    directory: &[u64],
+    cells: &[u64],
+    w: u64,
+    answer: &mut [u64; 6],
+) -> u64
+    requires { ⌜ Good (holds (now heap) (now slots) (now scalars) (now list) (now directory) (now cells)) ⌝ }
+    ensures { λ r. ⌜ Reads (Calls.place-count w) (holds (now (heap .entry)) (now (slots .entry)) (now (scalars .entry)) (now (list .entry)) (now (directory .entry)) (now (cells .entry))) r (now (answer .exit)) ⌝ }
+{
+    let h = load(heap);
+    let a = collections::place_count(h, slots, scalars, list, directory, cells, w);
+    tell(answer, commands::reading(a))
+}
+
+// Whether a map is hashed.
+#[no_mangle]
+pub extern "C" fn mch_is_hashed(
+    heap: &[u64; 18],
+    slots: &[u64],
+    scalars: &[u64],
+    list: &[u64],
+    directory: &[u64],
+    cells: &[u64],
+    w: u64,
+    answer: &mut [u64; 6],
+) -> u64
+    requires { ⌜ Good (holds (now heap) (now slots) (now scalars) (now list) (now directory) (now cells)) ⌝ }
+    ensures { λ r. ⌜ Reads (Calls.is-hashed w) (holds (now (heap .entry)) (now (slots .entry)) (now (scalars .entry)) (now (list .entry)) (now (directory .entry)) (now (cells .entry))) r (now (answer .exit)) ⌝ }
+{
+    let h = load(heap);
+    let a = collections::is_hashed(h, slots, scalars, list, directory, cells, w);
+    tell(answer, commands::test(a))
+}
+
+// The type of a map's keys.
+#[no_mangle]
+pub extern "C" fn mch_key_type(
+    heap: &[u64; 18],
+    slots: &[u64],
+    scalars: &[u64],
+    list: &[u64],
+    directory: &[u64],
+    cells: &[u64],
+    w: u64,
+    answer: &mut [u64; 6],
+) -> u64
+    requires { ⌜ Good (holds (now heap) (now slots) (now scalars) (now list) (now directory) (now cells)) ⌝ }
+    ensures { λ r. ⌜ Reads (Calls.key-type w) (holds (now (heap .entry)) (now (slots .entry)) (now (scalars .entry)) (now (list .entry)) (now (directory .entry)) (now (cells .entry))) r (now (answer .exit)) ⌝ }
+{
+    let h = load(heap);
+    let a = collections::key_type(h, slots, scalars, list, directory, cells, w);
+    tell(answer, commands::reading(a))
+}
+
+// The type of a map's values.
+#[no_mangle]
+pub extern "C" fn mch_value_type(
+    heap: &[u64; 18],
+    slots: &[u64],
+    scalars: &[u64],
+    list: &[u64],
+    directory: &[u64],
+    cells: &[u64],
+    w: u64,
+    answer: &mut [u64; 6],
+) -> u64
+    requires { ⌜ Good (holds (now heap) (now slots) (now scalars) (now list) (now directory) (now cells)) ⌝ }
+    ensures { λ r. ⌜ Reads (Calls.value-type w) (holds (now (heap .entry)) (now (slots .entry)) (now (scalars .entry)) (now (list .entry)) (now (directory .entry)) (now (cells .entry))) r (now (answer .exit)) ⌝ }
+{
+    let h = load(heap);
+    let a = collections::value_type(h, slots, scalars, list, directory, cells, w);
+    tell(answer, commands::reading(a))
+}
+
+// How often a map was compacted, in 32 bits.
+#[no_mangle]
+pub extern "C" fn mch_map_epoch(
+    heap: &[u64; 18],
+    slots: &[u64],
+    scalars: &[u64],
+    list: &[u64],
+    directory: &[u64],
+    cells: &[u64],
+    w: u64,
+    answer: &mut [u64; 6],
+) -> u64
+    requires { ⌜ Good (holds (now heap) (now slots) (now scalars) (now list) (now directory) (now cells)) ⌝ }
+    ensures { λ r. ⌜ Reads (Calls.map-epoch w) (holds (now (heap .entry)) (now (slots .entry)) (now (scalars .entry)) (now (list .entry)) (now (directory .entry)) (now (cells .entry))) r (now (answer .exit)) ⌝ }
+{
+    let h = load(heap);
+    let a = collections::map_epoch(h, slots, scalars, list, directory, cells, w);
+    tell(answer, commands::reading(a))
+}
+
+// The next entry's sequence number.
+#[no_mangle]
+pub extern "C" fn mch_next_sequence(
+    heap: &[u64; 18],
+    slots: &[u64],
+    scalars: &[u64],
+    list: &[u64],
+    directory: &[u64],
+    cells: &[u64],
+    w: u64,
+    answer: &mut [u64; 6],
+) -> u64
+    requires { ⌜ Good (holds (now heap) (now slots) (now scalars) (now list) (now directory) (now cells)) ⌝ }
+    ensures { λ r. ⌜ Reads (Calls.next-sequence w) (holds (now (heap .entry)) (now (slots .entry)) (now (scalars .entry)) (now (list .entry)) (now (directory .entry)) (now (cells .entry))) r (now (answer .exit)) ⌝ }
+{
+    let h = load(heap);
+    let a = collections::next_sequence(h, slots, scalars, list, directory, cells, w);
+    tell(answer, commands::reading(a))
+}
+
+// The capacity of a map's entry list.
+#[no_mangle]
+pub extern "C" fn mch_entry_capacity(
+    heap: &[u64; 18],
+    slots: &[u64],
+    scalars: &[u64],
+    list: &[u64],
+    directory: &[u64],
+    cells: &[u64],
+    w: u64,
+    answer: &mut [u64; 6],
+) -> u64
+    requires { ⌜ Good (holds (now heap) (now slots) (now scalars) (now list) (now directory) (now cells)) ⌝ }
+    ensures { λ r. ⌜ Reads (Calls.entry-capacity w) (holds (now (heap .entry)) (now (slots .entry)) (now (scalars .entry)) (now (list .entry)) (now (directory .entry)) (now (cells .entry))) r (now (answer .exit)) ⌝ }
+{
+    let h = load(heap);
+    let a = collections::entry_capacity(h, slots, scalars, list, directory, cells, w);
+    tell(answer, commands::reading(a))
+}
+
+// The length of a map's index.
+#[no_mangle]
+pub extern "C" fn mch_index_length(
+    heap: &[u64; 18],
+    slots: &[u64],
+    scalars: &[u64],
+    list: &[u64],
+    directory: &[u64],
+    cells: &[u64],
+    w: u64,
+    answer: &mut [u64; 6],
+) -> u64
+    requires { ⌜ Good (holds (now heap) (now slots) (now scalars) (now list) (now directory) (now cells)) ⌝ }
+    ensures { λ r. ⌜ Reads (Calls.index-length w) (holds (now (heap .entry)) (now (slots .entry)) (now (scalars .entry)) (now (list .entry)) (now (directory .entry)) (now (cells .entry))) r (now (answer .exit)) ⌝ }
+{
+    let h = load(heap);
+    let a = collections::index_length(h, slots, scalars, list, directory, cells, w);
+    tell(answer, commands::reading(a))
+}
+
+// The bytes that an insertion of this key would be charged.
+#[no_mangle]
+pub extern "C" fn mch_growth_bytes(
+    heap: &[u64; 18],
+    slots: &[u64],
+    scalars: &[u64],
+    list: &[u64],
+    directory: &[u64],
+    cells: &[u64],
+    w: u64,
+    key: u64,
+    answer: &mut [u64; 6],
+) -> u64
+    requires { ⌜ Good (holds (now heap) (now slots) (now scalars) (now list) (now directory) (now cells)) ⌝ }
+    ensures { λ r. ⌜ Reads (Calls.growth-bytes w key) (holds (now (heap .entry)) (now (slots .entry)) (now (scalars .entry)) (now (list .entry)) (now (directory .entry)) (now (cells .entry))) r (now (answer .exit)) ⌝ }
+{
+    let h = load(heap);
+    let a = collections::growth_bytes(h, slots, scalars, list, directory, cells, w, key);
+    tell(answer, commands::reading(a))
+}
+
+// The next item of an iterator, or its end.
+#[no_mangle]
+pub extern "C" fn mch_iter_next(
+    heap: &[u64; 18],
+    slots: &[u64],
+    scalars: &mut [u64],
+    list: &[u64],
+    directory: &[u64],
+    cells: &[u64],
+    w: u64,
+    answer: &mut [u64; 6],
+) -> u64
+    requires { ⌜ Good (holds (now heap) (now slots) (now scalars) (now list) (now directory) (now cells)) ⌝ }
+    ensures { λ r. ⌜ Performs (Calls.iter-next w) (holds (now (heap .entry)) (now (slots .entry)) (now (scalars .entry)) (now (list .entry)) (now (directory .entry)) (now (cells .entry))) r (now (answer .exit)) (holds (now (heap .entry)) (now (slots .entry)) (now (scalars .exit)) (now (list .entry)) (now (directory .entry)) (now (cells .entry))) ⌝ }
+{
+    let h = load(heap);
+    let a = collections::iter_next(h, slots, scalars, list, directory, cells, w);
+    tell(answer, commands::perhaps(a))
+}
+
+// The key of the item visited last.
+#[no_mangle]
+pub extern "C" fn mch_iter_key(
+    heap: &[u64; 18],
+    slots: &[u64],
+    scalars: &[u64],
+    list: &[u64],
+    directory: &[u64],
+    cells: &[u64],
+    w: u64,
+    answer: &mut [u64; 6],
+) -> u64
+    requires { ⌜ Good (holds (now heap) (now slots) (now scalars) (now list) (now directory) (now cells)) ⌝ }
+    ensures { λ r. ⌜ Reads (Calls.iter-key w) (holds (now (heap .entry)) (now (slots .entry)) (now (scalars .entry)) (now (list .entry)) (now (directory .entry)) (now (cells .entry))) r (now (answer .exit)) ⌝ }
+{
+    let h = load(heap);
+    let a = collections::iter_key(h, slots, scalars, list, directory, cells, w);
+    tell(answer, commands::perhaps(a))
+}
+
+// The word of the array or map that an iterator goes over.
+#[no_mangle]
+pub extern "C" fn mch_iter_source(
+    heap: &[u64; 18],
+    slots: &[u64],
+    scalars: &[u64],
+    list: &[u64],
+    directory: &[u64],
+    cells: &[u64],
+    w: u64,
+    answer: &mut [u64; 6],
+) -> u64
+    requires { ⌜ Good (holds (now heap) (now slots) (now scalars) (now list) (now directory) (now cells)) ⌝ }
+    ensures { λ r. ⌜ Reads (Calls.iter-source w) (holds (now (heap .entry)) (now (slots .entry)) (now (scalars .entry)) (now (list .entry)) (now (directory .entry)) (now (cells .entry))) r (now (answer .exit)) ⌝ }
+{
+    let h = load(heap);
+    let a = collections::iter_source(h, slots, scalars, list, directory, cells, w);
+    tell(answer, commands::reading(a))
+}
+
+// The type of an iterator's keys.
+#[no_mangle]
+pub extern "C" fn mch_iter_key_type(
+    heap: &[u64; 18],
+    slots: &[u64],
+    scalars: &[u64],
+    list: &[u64],
+    directory: &[u64],
+    cells: &[u64],
+    w: u64,
+    answer: &mut [u64; 6],
+) -> u64
+    requires { ⌜ Good (holds (now heap) (now slots) (now scalars) (now list) (now directory) (now cells)) ⌝ }
+    ensures { λ r. ⌜ Reads (Calls.iter-key-type w) (holds (now (heap .entry)) (now (slots .entry)) (now (scalars .entry)) (now (list .entry)) (now (directory .entry)) (now (cells .entry))) r (now (answer .exit)) ⌝ }
+{
+    let h = load(heap);
+    let a = collections::iter_key_type(h, slots, scalars, list, directory, cells, w);
+    tell(answer, commands::reading(a))
+}
+
+// Whether an iterator has ended.
+#[no_mangle]
+pub extern "C" fn mch_iter_ended(
+    heap: &[u64; 18],
+    slots: &[u64],
+    scalars: &[u64],
+    list: &[u64],
+    directory: &[u64],
+    cells: &[u64],
+    w: u64,
+    answer: &mut [u64; 6],
+) -> u64
+    requires { ⌜ Good (holds (now heap) (now slots) (now scalars) (now list) (now directory) (now cells)) ⌝ }
+    ensures { λ r. ⌜ Reads (Calls.iter-ended w) (holds (now (heap .entry)) (now (slots .entry)) (now (scalars .entry)) (now (list .entry)) (now (directory .entry)) (now (cells .entry))) r (now (answer .exit)) ⌝ }
+{
+    let h = load(heap);
+    let a = collections::iter_ended(h, slots, scalars, list, directory, cells, w);
+    tell(answer, commands::test(a))
+}
+
+// An iterator's cursor.
+#[no_mangle]
+pub extern "C" fn mch_iter_cursor(
+    heap: &[u64; 18],
+    slots: &[u64],
+    scalars: &[u64],
+    list: &[u64],
+    directory: &[u64],
+    cells: &[u64],
+    w: u64,
+    answer: &mut [u64; 6],
+) -> u64
+    requires { ⌜ Good (holds (now heap) (now slots) (now scalars) (now list) (now directory) (now cells)) ⌝ }
+    ensures { λ r. ⌜ Reads (Calls.iter-cursor w) (holds (now (heap .entry)) (now (slots .entry)) (now (scalars .entry)) (now (list .entry)) (now (directory .entry)) (now (cells .entry))) r (now (answer .exit)) ⌝ }
+{
+    let h = load(heap);
+    let a = collections::iter_cursor(h, slots, scalars, list, directory, cells, w);
+    tell(answer, commands::cursor(a))
+}

@@ -1,0 +1,2 @@
+pub mod CommandLaws
+pub mod ReadLaws

@@ -1,0 +1,111 @@
+use Rattle.readings.proofs.CommandLaws.{part-coroutine-finalized, part-coroutine-sequence, part-frame-count, part-key, part-none, part-payload, part-register-count, part-result, part-signal}
+use Rattle.readings.proofs.ReadLaws.{read-so}
+use Rattle.commands.proofs.PerformedLaws.{changed-unknown}
+use borrow.Author.Needs.{needs}
+use Rattle.readings.proofs.coroutine_part.Statement.{statement}
+use Rattle.readings.proofs.coroutine_part.Tie as tie
+
+read-payload-requires : tie.Need-read-payload-requires
+read-payload-requires c κs = (c .before .before .before .before .before .before .pre)
+
+word-requires : tie.Need-word-requires
+word-requires c κs = search needs
+
+read-key-requires : tie.Need-read-key-requires
+read-key-requires c κs = (c .before .before .before .before .before .before .pre)
+
+word-requires-2 : tie.Need-word-requires-2
+word-requires-2 c κs = search needs
+
+read-result-requires : tie.Need-read-result-requires
+read-result-requires c κs = (c .before .before .before .before .before .before .pre)
+
+word-requires-3 : tie.Need-word-requires-3
+word-requires-3 c κs = search needs
+
+read-signal-requires : tie.Need-read-signal-requires
+read-signal-requires c κs = (c .before .before .before .before .before .before .pre)
+
+word-requires-4 : tie.Need-word-requires-4
+word-requires-4 c κs = search needs
+
+coroutine-sequence-requires : tie.Need-coroutine-sequence-requires
+coroutine-sequence-requires c κs = (c .before .before .before .before .before .before .pre)
+
+word-requires-5 : tie.Need-word-requires-5
+word-requires-5 c κs = search needs
+
+coroutine-finalized-requires : tie.Need-coroutine-finalized-requires
+coroutine-finalized-requires c κs = (c .before .before .before .before .before .before .pre)
+
+test-requires : tie.Need-test-requires
+test-requires c κs = search needs
+
+register-count-requires : tie.Need-register-count-requires
+register-count-requires c κs = (c .before .before .before .before .before .before .pre)
+
+word-requires-6 : tie.Need-word-requires-6
+word-requires-6 c κs = search needs
+
+frame-count-requires : tie.Need-frame-count-requires
+frame-count-requires c κs = (c .before .before .before .before .before .before .pre)
+
+word-requires-7 : tie.Need-word-requires-7
+word-requires-7 c κs = search needs
+
+returns : tie.Need-returns
+returns c = read-so (c .before .read-payload .ensures) (c .word .ensures) (part-payload ((c .before .before .before .before .before .before .before .before .args .w)) ((c .before .before .before .before .before .before .before .before .args .code)) (c .before .before .match .keys1))
+
+returns-2 : tie.Need-returns-2
+returns-2 c = read-so (c .before .read-key .ensures) (c .word2 .ensures) (part-key ((c .before .before .before .before .before .before .before .before .args .w)) ((c .before .before .before .before .before .before .before .before .args .code)) (c .before .before .match .keys2))
+
+returns-3 : tie.Need-returns-3
+returns-3 c = read-so (c .before .read-result .ensures) (c .word3 .ensures) (part-result ((c .before .before .before .before .before .before .before .before .args .w)) ((c .before .before .before .before .before .before .before .before .args .code)) (c .before .before .match .keys3))
+
+returns-4 : tie.Need-returns-4
+returns-4 c = read-so (c .before .read-signal .ensures) (c .word4 .ensures) (part-signal ((c .before .before .before .before .before .before .before .before .args .w)) ((c .before .before .before .before .before .before .before .before .args .code)) (c .before .before .match .keys4))
+
+returns-5 : tie.Need-returns-5
+returns-5 c = read-so (c .before .coroutine-sequence .ensures) (c .word5 .ensures) (part-coroutine-sequence ((c .before .before .before .before .before .before .before .before .args .w)) ((c .before .before .before .before .before .before .before .before .args .code)) (c .before .before .match .keys5))
+
+returns-6 : tie.Need-returns-6
+returns-6 c = read-so (c .before .coroutine-finalized .ensures) (c .test .ensures) (part-coroutine-finalized ((c .before .before .before .before .before .before .before .before .args .w)) ((c .before .before .before .before .before .before .before .before .args .code)) (c .before .before .match .keys6))
+
+returns-7 : tie.Need-returns-7
+returns-7 c = read-so (c .before .register-count .ensures) (c .word6 .ensures) (part-register-count ((c .before .before .before .before .before .before .before .before .args .w)) ((c .before .before .before .before .before .before .before .before .args .code)) (c .before .before .match .keys7))
+
+returns-8 : tie.Need-returns-8
+returns-8 c = read-so (c .before .frame-count .ensures) (c .word7 .ensures) (part-frame-count ((c .before .before .before .before .before .before .before .before .args .w)) ((c .before .before .before .before .before .before .before .before .args .code)) (c .before .before .match .keys8))
+
+returns-9 : tie.Need-returns-9
+returns-9 c = changed-unknown (part-none ((c .before .before .before .before .before .before .args .w)) ((c .before .before .before .before .before .before .args .code)) (c .match .rest .0 .0 .0 .0 .0 .0 .0 .1) (c .match .rest .0 .0 .0 .0 .0 .0 .1) (c .match .rest .0 .0 .0 .0 .0 .1) (c .match .rest .0 .0 .0 .0 .1) (c .match .rest .0 .0 .0 .1) (c .match .rest .0 .0 .1) (c .match .rest .0 .1) (c .match .rest .1))
+
+pub coroutine-part-spec : {M : Type 1} → statement M
+coroutine-part-spec =
+    tie.close
+    (tie.spec
+    read-payload-requires
+    word-requires
+    read-key-requires
+    word-requires-2
+    read-result-requires
+    word-requires-3
+    read-signal-requires
+    word-requires-4
+    coroutine-sequence-requires
+    word-requires-5
+    coroutine-finalized-requires
+    test-requires
+    register-count-requires
+    word-requires-6
+    frame-count-requires
+    word-requires-7
+    returns
+    returns-2
+    returns-3
+    returns-4
+    returns-5
+    returns-6
+    returns-7
+    returns-8
+    returns-9)
