@@ -8,7 +8,7 @@ use Rattle.marking.proofs.trace.Statement.{statement}
 use Rattle.marking.proofs.trace.Tie as tie
 use Rattle.marking.proofs.trace.Reads as reads
 use Rattle.marking.proofs.trace.Lts as lts
-use Rattle.marking.proofs.mark_object.Reads as mark-object-reads
+use Rattle.marking.proofs.mark_next.Reads as mark-next-reads
 
 abbrev Inv-loop : tie.InvT-loop
 Inv-loop slots scalars cells layout table fresh marks₀ order₀ visited marked v₀ k₀ marks order v k = Scanning slots fresh (children (layoutOf layout) slots scalars cells) marks₀ order₀ visited marked marks order v k
@@ -33,8 +33,8 @@ cast-i : tie.Need-cast-i Inv-loop μ-loop
 cast-i c = omega (arith, (c .slice-known3 .given) (c .before .before .loop .v))
 
 -- src/lib.rt:318:9
-mark-object-requires : tie.Need-mark-object-requires Inv-loop μ-loop
-mark-object-requires c κs = (scanning-slot (c .before .before .before .before .loop .inv) (c .before .before .before .loop-test .taken), ((c .before .before .before .before .before .before .before .before .before .before .before .before .pre) .1 .0, ((c .before .before .before .before .before .before .before .before .before .before .before .before .pre) .1 .1 .0, scanning-ready (c .before .before .before .before .loop .inv) ((c .before .before .before .before .before .before .before .before .before .before .before .before .pre) .1 .1 .1 .0))))
+mark-next-requires : tie.Need-mark-next-requires Inv-loop μ-loop
+mark-next-requires c κs = (scanning-slot (c .before .before .before .before .loop .inv) (c .before .before .before .loop-test .taken), ((c .before .before .before .before .before .before .before .before .before .before .before .before .pre) .1 .0, ((c .before .before .before .before .before .before .before .before .before .before .before .before .pre) .1 .1 .0, scanning-ready (c .before .before .before .before .loop .inv) ((c .before .before .before .before .before .before .before .before .before .before .before .before .pre) .1 .1 .1 .0))))
 
 -- src/lib.rt:319:9
 add-v : tie.Need-add-v Inv-loop μ-loop
@@ -46,7 +46,7 @@ loop-less c = omega (arith, scanning-few (c .before .before .before .before .bef
 
 -- src/lib.rt:316:5
 loop-again : tie.Need-loop-again Inv-loop μ-loop
-loop-again c = scanning-step (c .before .before .before .before .before .before .before .before .before .loop .inv) (c .before .before .before .before .before .before .before .before .loop-test .taken) (c .before .before .before .before .mark-object .ensures)
+loop-again c = scanning-step (c .before .before .before .before .before .before .before .before .before .loop .inv) (c .before .before .before .before .before .before .before .before .loop-test .taken) (c .before .before .before .before .mark-next .ensures)
 
 -- src/lib.rt:305:1
 same-length : tie.Need-same-length Inv-loop μ-loop
@@ -70,7 +70,7 @@ trace-spec =
     mul-i
     slice-read-i
     cast-i
-    mark-object-requires
+    mark-next-requires
     add-v
     loop-less
     loop-again
