@@ -48,8 +48,11 @@ pub record ArrayHere (t : State) (w i : ℕ) (h : Header) : Type 0 where
   pub target : Target t w i 6
   pub header : h ≡ headerAt (t .slots) i
 
+pub array-at : {t : State} {w i : ℕ} {h : Header} → Good t → Target t w i 6 → h ≡ headerAt (t .slots) i → ArrayHere t w i h
+array-at g o p = record { good = g; target = o; header = p }
+
 pub array-here : {t : State} {w i : ℕ} {r : Located} {h : Header} → Good t → Locates (t .slots) (t .heap .fresh) w 6 r → r ≡ L.At i → h ≡ headerAt (t .slots) i → ArrayHere t w i h
-array-here g d e p = record { good = g; target = located-at g d e; header = p }
+array-here g d e p = array-at g (located-at g d e) p
 
 -- a slot of kind 6 with the tag of a good one
 pub array-good : {r r′ : Raw} {x : Scalars} (x′ : Scalars) → SlotGood r x → r′ .half ≡ r .half → r′ .kind ≡ 6 → r′ .len ≤ r′ .size → SlotGood r′ x′

@@ -65,6 +65,10 @@ module _ {t : State} {i size : ℕ} (g : Good t) (w : Lengthening t i size) wher
       let z : size - headerAt (t .slots) i .size ≡ 0 = omega arith in
       rw er record { heap = rw z; grown = same-grown s }
 
+  -- nothing is charged, and the record stays
+  pub stays-same : {h : Header} → h ≡ headerAt (t .slots) i → size ≤ h .size → Lengthened t i size (t .heap .account) (t .heap) (t .slots) (t .directory) (t .cells)
+  stays-same e l = let z : t .heap .taken + 0 ≡ t .heap .taken = omega arith in stays-long e l (rw z)
+
   pub made-longer : {a : Account} {r : Heap} {h : Header} {q : Top} {s′ dir′ c′ : List ℕ} → h ≡ headerAt (t .slots) i → Grown (t .heap .fresh) i size q (t .slots) (t .directory) (t .cells) s′ dir′ c′ →
       r ≡ withRegions (t .heap) a (q .cells) (q .entries) (t .heap .taken + (size - h .size)) → Lengthened t i size a r s′ dir′ c′
   made-longer e w er = rw er record { heap = rw e; grown = w }

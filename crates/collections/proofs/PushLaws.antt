@@ -1,5 +1,6 @@
 -- An item pushed onto an array. Assumes nothing.
 use Prim.Native.Nat.{ℕ, _+_, _*_, _-_, _≤_, _<_}
+use mathlib.Core.Logic.{_≢_}
 use mathlib.Core.Path.{_≡_, refl, ap, sym, _∙_}
 use mathlib.Core.Bool.{false, true}
 use mathlib.Core.List.{List, [], _∷_, _++_}
@@ -48,7 +49,7 @@ use Rattle.collections.specs.Words.{ItemIs}
 use Rattle.collections.specs.Growth.{Appended, Appending, Lengthened, Lengthening}
 use Rattle.collections.specs.Growth as Growth
 use Rattle.collections.proofs.ArrayLaws.{ArrayHere, array-good, array-inside, array-items, items-length}
-use Rattle.collections.proofs.GrowthLaws.{lengthened-touched}
+use Rattle.collections.proofs.GrowthLaws.{lengthened-touched, stays-same}
 
 -- ---- the capacity after a push
 
@@ -57,6 +58,9 @@ push-more len size l =
     by-cases (same-or-not len size)
     (λ e. rw (eqb-yes len size e) (omega arith, omega arith, omega arith))
     (λ ne. rw (eqb-no len size ne) (omega arith, omega (arith, ne), omega arith))
+
+pub push-keeps : (len size : ℕ) → len ≢ size → (size ≡ Growth.pushSize len size) × (0 ≡ Growth.pushBytes len size)
+push-keeps len size ne = rw (eqb-no len size ne) (refl, refl)
 
 pub push-refused : {t : State} {w v : ℕ} {r : Located} {q : Refusal} → Good t → Locates (t .slots) (t .heap .fresh) w 6 r → r ≡ L.Refused q → Performs (Calls.push w v) t (refused q) t
 unfolding terms effect charging
@@ -208,3 +212,22 @@ module _ {t : State} {w i : ℕ} {h : Header} (m : ArrayHere t w i h) where
     pushed {v} {n = n} en f it p l =
         rw (u .heap)
         (does-stored-charged l (m .good) (m .target .reached) (push-stored it p l) (Calls.push w v) refl (charge-is en v l) (f .0) (f .1) (push-passes v l) refl refl)
+
+  -- ---- where the array has room for the item, it keeps its region
+
+  module _ (ne : h .len ≢ h .size) where
+    room-asks : Lengthening t i (h .size)
+    room-asks = push-asks (push-keeps _ _ ne .0) (omega arith)
+
+    room-stays : Lengthened t i (h .size) (t .heap .account) (t .heap) (t .slots) (t .directory) (t .cells)
+    room-stays = stays-same (m .good) room-asks (m .header) (omega arith)
+
+    pub room-over : {v : ℕ} → fits (t .heap .account) 0 ≡ false → Performs (Calls.push w v) t (refused No.OverBudget) t
+    room-over f = push-over (push-keeps _ _ ne .1) f
+
+    pub room-appends : Appending (t .slots) (t .cells) i
+    room-appends = push-appends (push-keeps _ _ ne .0) (omega arith) room-stays
+
+    pub room-pushed : {v x : ℕ} {s″ c″ : List ℕ} → (fits (t .heap .account) 0 ≡ true) × (t .heap .account ≡ charged (t .heap .account) 0) → ItemIs t (h .mode) v x → Appended (t .slots) (t .cells) s″ c″ i x →
+        Performs (Calls.push w v) t (answered nothing) (state (t .heap) s″ (t .scalars) (t .list) (t .directory) c″)
+    room-pushed f it p = pushed (push-keeps _ _ ne .0) (omega arith) room-stays (push-keeps _ _ ne .1) f it p

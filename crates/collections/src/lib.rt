@@ -13,6 +13,7 @@ ghost use Rattle.heap.specs.Kinds.{cursorOf};
 ghost use Rattle.heap.specs.State.{state, withRegions};
 ghost use Rattle.heap.specs.Good.{Good};
 ghost use Rattle.heap.specs.Promise.{Performs, Reads};
+ghost use Rattle.heap.proofs.ReachLaws.{Target};
 ghost use Rattle.heap.proofs.StepLaws.{OwnCells};
 ghost use Rattle.collections.specs.Answers.{perhapsIs, entrySeen, nextSeen, notedSeen, cursorSeen, lentSeen, stepSeen};
 ghost use Rattle.collections.specs.Words.{WordOf, mapFrom, MapWritten, flagOf, ItemIs, ZeroCharge};
@@ -311,6 +312,62 @@ fn append(slots: &mut [u64], cells: &mut [u64], i: usize, v: u64)
     let at = (h.start + h.len) as usize;
     cells[at] = v;
     slots::set_len(slots, i, h.len + 1);
+}
+
+// An item behind the last of the array in slot i, whose region becomes longer where it is full: 5, 7.
+fn push_at(
+    heap: Heap,
+    slots: &mut [u64],
+    scalars: &[u64],
+    list: &[u64],
+    directory: &mut [u64],
+    cells: &mut [u64],
+    w: u64,
+    i: usize,
+    v: u64,
+) -> Settled
+    requires good { ⌜ Good (state heap (now slots) (now scalars) (now list) (now directory) (now cells)) ⌝ }
+    requires array { ⌜ Target (state heap (now slots) (now scalars) (now list) (now directory) (now cells)) w i 6 ⌝ }
+    ensures { λ r. ⌜ Performs (Calls.push w v) (state heap (now (slots .entry)) (now (scalars .entry)) (now (list .entry)) (now (directory .entry)) (now (cells .entry))) (doneIs (r .done)) (state (r .heap) (now (slots .exit)) (now (scalars .entry)) (now (list .entry)) (now (directory .exit)) (now (cells .exit))) ⌝ }
+{
+    let h = slots::read_header(slots, i);
+    let size = push_size(h.len, h.size);
+    let account = heap.account;
+    match account.charge(push_bytes(h.len, h.size)) {
+        Charged::Refused => Settled {
+            heap,
+            done: Done::Refused(Refusal::OverBudget),
+        },
+        Charged::Next(next) => {
+            if (cells.len() as u64) - heap.taken < size - h.size {
+                return Settled {
+                    heap,
+                    done: Done::Refused(Refusal::NoCells),
+                };
+            }
+            let word = item(heap, slots, scalars, list, directory, cells, h.mode, v);
+            let t = Top {
+                cells: heap.top,
+                entries: heap.entries,
+            };
+            let q = cells::grow(
+                slots,
+                heap.fresh,
+                directory,
+                heap.size * 2,
+                t,
+                cells,
+                i,
+                size,
+            );
+            let g = grown(heap, next, q, size - h.size);
+            append(slots, cells, i, word);
+            Settled {
+                heap: g,
+                done: Done::Accepted,
+            }
+        }
+    }
 }
 
 // The value of a map's entry, set in the map's cells.
@@ -1195,7 +1252,7 @@ pub fn iter_next(
     }
 }
 
-// An item behind the last of an array.
+// An item behind the last of an array. Where there is room for it, nothing is charged and the record stays.
 pub fn push(
     heap: Heap,
     slots: &mut [u64],
@@ -1216,28 +1273,22 @@ pub fn push(
         },
         Located::At(i) => {
             let h = slots::read_header(slots, i);
-            let size = push_size(h.len, h.size);
+            if h.len == h.size {
+                return push_at(heap, slots, scalars, list, directory, cells, w, i, v);
+            }
             let account = heap.account;
-            match account.charge(push_bytes(h.len, h.size)) {
-                Charged::Refused => Settled {
+            let fits = zero_fits(account);
+            if !fits {
+                return Settled {
                     heap,
                     done: Done::Refused(Refusal::OverBudget),
-                },
-                Charged::Next(next) => {
-                    if (cells.len() as u64) - heap.taken < size - h.size {
-                        return Settled {
-                            heap,
-                            done: Done::Refused(Refusal::NoCells),
-                        };
-                    }
-                    let x = item(heap, slots, scalars, list, directory, cells, h.mode, v);
-                    let g = longer(heap, slots, scalars, list, directory, cells, i, size, next);
-                    append(slots, cells, i, x);
-                    Settled {
-                        heap: g,
-                        done: Done::Accepted,
-                    }
-                }
+                };
+            }
+            let x = item(heap, slots, scalars, list, directory, cells, h.mode, v);
+            append(slots, cells, i, x);
+            Settled {
+                heap,
+                done: Done::Accepted,
             }
         }
     }
