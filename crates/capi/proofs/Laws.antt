@@ -43,8 +43,9 @@ use Rattle.commands.specs.declared.Shown.{Shown}
 use Rattle.commands.specs.Promise.{ShowsCall}
 use Rattle.commands.specs.Shows.{answerShown, replyShown, shownOf, withLent}
 use Rattle.commands.proofs.PerformedLaws.{shown-refusal}
-use Rattle.capi.specs.Record.{cursorOut, loaded}
-use Rattle.capi.specs.Promise.{OpensWords, Settles, ShowsList, openedIn}
+use Rattle.record.specs.Record.{OpensWords, loaded, openedIn}
+use Rattle.capi.specs.Record.{cursorOut}
+use Rattle.capi.specs.Promise.{Settles, ShowsList}
 
 shows-does : {l : Layout} {k : Call} {b a : State} {o : Seen} {s : Shown} → Does l k b o a → s ≡ shownOf o → ShowsCall l k b s a
 shows-does {o = o} d e = record {

@@ -1,27 +1,22 @@
 -- What the functions promise of the words they are lent and return.
 use mathlib.Core.Path.{_≡_}
-use mathlib.Core.Logic.{_≢_}
 use mathlib.Core.List.{List}
 use Prim.Native.Nat.{ℕ}
-use mathlib.Core.Bool.{cond}
-use lib.Dec.{eqb}
 use Rattle.layout.specs.Layout.{Layout}
 use Rattle.model.specs.Calls.{Call}
 use Rattle.model.specs.Model.{Model}
-use Rattle.model.specs.Opening.{Opening}
 use Rattle.model.specs.Replies.{list}
 use Rattle.model.specs.Step.{step}
 use Rattle.history.proofs.Lift.{seen}
 use Rattle.heap.specs.State.{State, modelOf, state}
 use Rattle.heap.specs.Answers.{numberOf}
-use Rattle.heap.specs.Opens.{Beside, Opens, openedNumber}
 use Rattle.heap.specs.declared.Opened.{Opened}
 use Rattle.heap.specs.declared.Opened.the-variants.{Ready, Refused}
-use Rattle.heap.specs.declared.Refusal.the-variants.{BadOpening}
 use Rattle.commands.specs.declared.Shown.{Shown}
 use Rattle.commands.specs.Promise.{ShowsCall}
 use Rattle.commands.specs.Shows.{shownOf}
-use Rattle.capi.specs.Record.{loaded, told}
+use Rattle.record.specs.Record.{loaded}
+use Rattle.capi.specs.Record.{told}
 
 -- the state of a heap whose record is kept as words
 abbrev pub holds : List ℕ → List ℕ → List ℕ → List ℕ → List ℕ → List ℕ → State
@@ -50,13 +45,3 @@ pub record ShowsList (l : Layout) (k : Call) (b : State) (s : Shown) (ws : List 
 unfoldable pub Settles : Opened → List ℕ → ℕ → List ℕ → Type 0
 Settles (Ready h) before r after = (r ≡ 0) × (loaded after ≡ h)
 Settles (Refused q) before r after = (r ≡ numberOf q) × (after ≡ before)
-
--- an opening that returned r and left these words
-unfoldable pub openedIn : ℕ → List ℕ → Opened
-openedIn r words = cond (eqb r 0) (Ready (loaded words)) (Refused BadOpening)
-
--- t: the new record over the buffers; x and y: what is lent beside them, before and after
-pub record OpensWords (o : Opening) (t : State) (x : Beside) (before : List ℕ) (r : ℕ) (after : List ℕ) (y : Beside) : Type 0 where
-  pub opens : Opens o t x (openedIn r after) y
-  pub returned : r ≡ openedNumber (openedIn r after)
-  pub kept : r ≢ 0 → after ≡ before

@@ -3,7 +3,6 @@
 // fresh, free, top, entries, taken, present, collections, freed. A function returns the number of
 // the refusal, 0 where the call is accepted; the words answered go into `answer`, zeros where there
 // are none.
-use account::Account;
 use allocation::Coroutine;
 use commands::Shown;
 use heap::Heap;
@@ -25,68 +24,11 @@ ghost use Rattle.heap.specs.State.{state};
 ghost use Rattle.heap.specs.Kinds.{framesIn};
 ghost use Rattle.heap.specs.Opens.{beside, newHeap, openingOf};
 ghost use Rattle.allocation.specs.Coroutines.{callOf};
-ghost use Rattle.capi.specs.Record.{coroutineIn, cursorIn, cursorOut, loaded, told, weightsIn, yes};
-ghost use Rattle.capi.specs.Promise.{OpensWords, Performs, Reads, Settles, ShowsList, Words, holds};
+ghost use Rattle.record.specs.Record.{OpensWords, loaded, weightsIn};
+ghost use Rattle.capi.specs.Record.{coroutineIn, cursorIn, cursorOut, told, yes};
+ghost use Rattle.capi.specs.Promise.{Performs, Reads, Settles, ShowsList, Words, holds};
 
 // ---- the words lent
-
-fn load(words: &[u64; 18]) -> Heap
-    ensures { λ r. ⌜ r ≡ loaded (now (words .entry)) ⌝ }
-{
-    let account = Account {
-        used: words[0],
-        since: words[1],
-        threshold: words[2],
-        limit: words[3],
-    };
-    let weights = Weights {
-        slot: words[4],
-        entry: words[5],
-        iterator: words[6],
-        coroutine: words[7],
-        frame: words[8],
-    };
-    Heap {
-        account,
-        weights,
-        size: words[9],
-        fresh: words[10],
-        free: words[11],
-        top: words[12],
-        entries: words[13],
-        taken: words[14],
-        present: words[15],
-        collections: words[16],
-        freed: words[17],
-    }
-}
-
-fn save(words: &mut [u64; 18], heap: Heap)
-    ensures { λ _. ⌜ loaded (now (words .exit)) ≡ heap ⌝ }
-{
-    let account = heap.account;
-    let weights = heap.weights;
-    *words = [
-        account.used,
-        account.since,
-        account.threshold,
-        account.limit,
-        weights.slot,
-        weights.entry,
-        weights.iterator,
-        weights.coroutine,
-        weights.frame,
-        heap.size,
-        heap.fresh,
-        heap.free,
-        heap.top,
-        heap.entries,
-        heap.taken,
-        heap.present,
-        heap.collections,
-        heap.freed,
-    ];
-}
 
 // Writes the answer's words; the refusal's number is returned.
 fn tell(answer: &mut [u64; 6], s: Shown) -> u64
@@ -155,7 +97,7 @@ fn settle(words: &mut [u64; 18], opened: Opened) -> u64
 {
     match opened {
         Opened::Ready(heap) => {
-            save(words, heap);
+            record::save(words, heap);
             0
         }
         Opened::Refused(q) => commands::number_of(q),
@@ -278,10 +220,10 @@ pub extern "C" fn mch_charge(
     requires { ⌜ Good (holds (now heap) (now slots) (now scalars) (now list) (now directory) (now cells)) ⌝ }
     ensures { λ r. ⌜ Performs (Calls.charge bytes) (holds (now (heap .entry)) (now (slots .entry)) (now (scalars .entry)) (now (list .entry)) (now (directory .entry)) (now (cells .entry))) r (now (answer .exit)) (holds (now (heap .exit)) (now (slots .entry)) (now (scalars .entry)) (now (list .entry)) (now (directory .entry)) (now (cells .entry))) ⌝ }
 {
-    let h = load(heap);
+    let h = record::load(heap);
     let a = heap::charge(h, slots, scalars, list, directory, cells, bytes);
     let next = a.heap;
-    save(heap, next);
+    record::save(heap, next);
     let done = a.done;
     tell(answer, commands::done(done))
 }
@@ -301,7 +243,7 @@ pub extern "C" fn mch_fits(
     requires { ⌜ Good (holds (now heap) (now slots) (now scalars) (now list) (now directory) (now cells)) ⌝ }
     ensures { λ r. ⌜ Reads (Calls.fits-bytes bytes) (holds (now (heap .entry)) (now (slots .entry)) (now (scalars .entry)) (now (list .entry)) (now (directory .entry)) (now (cells .entry))) r (now (answer .exit)) ⌝ }
 {
-    let h = load(heap);
+    let h = record::load(heap);
     let a = heap::fits(h, slots, scalars, list, directory, cells, bytes);
     tell(answer, commands::flag(a))
 }
@@ -321,7 +263,7 @@ pub extern "C" fn mch_wants_gc(
     requires { ⌜ Good (holds (now heap) (now slots) (now scalars) (now list) (now directory) (now cells)) ⌝ }
     ensures { λ r. ⌜ Reads (Calls.wants-gc extra) (holds (now (heap .entry)) (now (slots .entry)) (now (scalars .entry)) (now (list .entry)) (now (directory .entry)) (now (cells .entry))) r (now (answer .exit)) ⌝ }
 {
-    let h = load(heap);
+    let h = record::load(heap);
     let a = heap::wants_gc(h, slots, scalars, list, directory, cells, extra);
     tell(answer, commands::flag(a))
 }
@@ -340,7 +282,7 @@ pub extern "C" fn mch_collection_count(
     requires { ⌜ Good (holds (now heap) (now slots) (now scalars) (now list) (now directory) (now cells)) ⌝ }
     ensures { λ r. ⌜ Reads Calls.collection-count (holds (now (heap .entry)) (now (slots .entry)) (now (scalars .entry)) (now (list .entry)) (now (directory .entry)) (now (cells .entry))) r (now (answer .exit)) ⌝ }
 {
-    let h = load(heap);
+    let h = record::load(heap);
     let a = heap::collection_count(h, slots, scalars, list, directory, cells);
     tell(answer, commands::number(a))
 }
@@ -359,7 +301,7 @@ pub extern "C" fn mch_freed_count(
     requires { ⌜ Good (holds (now heap) (now slots) (now scalars) (now list) (now directory) (now cells)) ⌝ }
     ensures { λ r. ⌜ Reads Calls.freed-count (holds (now (heap .entry)) (now (slots .entry)) (now (scalars .entry)) (now (list .entry)) (now (directory .entry)) (now (cells .entry))) r (now (answer .exit)) ⌝ }
 {
-    let h = load(heap);
+    let h = record::load(heap);
     let a = heap::freed_count(h, slots, scalars, list, directory, cells);
     tell(answer, commands::number(a))
 }
@@ -378,7 +320,7 @@ pub extern "C" fn mch_used_bytes(
     requires { ⌜ Good (holds (now heap) (now slots) (now scalars) (now list) (now directory) (now cells)) ⌝ }
     ensures { λ r. ⌜ Reads Calls.used-bytes (holds (now (heap .entry)) (now (slots .entry)) (now (scalars .entry)) (now (list .entry)) (now (directory .entry)) (now (cells .entry))) r (now (answer .exit)) ⌝ }
 {
-    let h = load(heap);
+    let h = record::load(heap);
     let a = heap::used_bytes(h, slots, scalars, list, directory, cells);
     tell(answer, commands::number(a))
 }
@@ -397,7 +339,7 @@ pub extern "C" fn mch_present_count(
     requires { ⌜ Good (holds (now heap) (now slots) (now scalars) (now list) (now directory) (now cells)) ⌝ }
     ensures { λ r. ⌜ Reads Calls.present-count (holds (now (heap .entry)) (now (slots .entry)) (now (scalars .entry)) (now (list .entry)) (now (directory .entry)) (now (cells .entry))) r (now (answer .exit)) ⌝ }
 {
-    let h = load(heap);
+    let h = record::load(heap);
     let a = heap::present_count(h, slots, scalars, list, directory, cells);
     tell(answer, commands::number(a))
 }
@@ -416,7 +358,7 @@ pub extern "C" fn mch_cells_in_use(
     requires { ⌜ Good (holds (now heap) (now slots) (now scalars) (now list) (now directory) (now cells)) ⌝ }
     ensures { λ r. ⌜ Reads Calls.cells-in-use (holds (now (heap .entry)) (now (slots .entry)) (now (scalars .entry)) (now (list .entry)) (now (directory .entry)) (now (cells .entry))) r (now (answer .exit)) ⌝ }
 {
-    let h = load(heap);
+    let h = record::load(heap);
     let a = heap::cells_in_use(h, slots, scalars, list, directory, cells);
     tell(answer, commands::number(a))
 }
@@ -445,7 +387,7 @@ pub extern "C" fn mch_collect(
     ensures { λ r. ⌜ now (marks .exit) ≡ now (marks .entry) ⌝ }
     ensures { λ r. ⌜ now (order .exit) ≡ now (order .entry) ⌝ }
 {
-    let h = load(heap);
+    let h = record::load(heap);
     let a = collector::collect(
         h,
         slots,
@@ -461,7 +403,7 @@ pub extern "C" fn mch_collect(
         places,
     );
     let next = a.heap;
-    save(heap, next);
+    record::save(heap, next);
     let collection = a.answer;
     tell(answer, commands::collected(collection))
 }
@@ -483,10 +425,10 @@ pub extern "C" fn mch_new_string(
     requires { ⌜ Good (holds (now heap) (now slots) (now scalars) (now list) (now directory) (now cells)) ⌝ }
     ensures { λ r. ⌜ Performs (Calls.new-string (now (bytes .entry))) (holds (now (heap .entry)) (now (slots .entry)) (now (scalars .entry)) (now (list .entry)) (now (directory .entry)) (now (cells .entry))) r (now (answer .exit)) (holds (now (heap .exit)) (now (slots .exit)) (now (scalars .entry)) (now (list .entry)) (now (directory .exit)) (now (cells .exit))) ⌝ }
 {
-    let h = load(heap);
+    let h = record::load(heap);
     let a = allocation::new_string(h, slots, scalars, list, directory, cells, bytes);
     let next = a.heap;
-    save(heap, next);
+    record::save(heap, next);
     let made = a.answer;
     tell(answer, commands::made(made))
 }
@@ -506,10 +448,10 @@ pub extern "C" fn mch_new_integer(
     requires { ⌜ Good (holds (now heap) (now slots) (now scalars) (now list) (now directory) (now cells)) ⌝ }
     ensures { λ r. ⌜ Performs (Calls.new-integer z) (holds (now (heap .entry)) (now (slots .entry)) (now (scalars .entry)) (now (list .entry)) (now (directory .entry)) (now (cells .entry))) r (now (answer .exit)) (holds (now (heap .exit)) (now (slots .exit)) (now (scalars .entry)) (now (list .entry)) (now (directory .entry)) (now (cells .entry))) ⌝ }
 {
-    let h = load(heap);
+    let h = record::load(heap);
     let a = allocation::new_integer(h, slots, scalars, list, directory, cells, z);
     let next = a.heap;
-    save(heap, next);
+    record::save(heap, next);
     let made = a.answer;
     tell(answer, commands::made(made))
 }
@@ -530,10 +472,10 @@ pub extern "C" fn mch_new_cell(
     requires { ⌜ Good (holds (now heap) (now slots) (now scalars) (now list) (now directory) (now cells)) ⌝ }
     ensures { λ r. ⌜ Performs (Calls.new-cell t w) (holds (now (heap .entry)) (now (slots .entry)) (now (scalars .entry)) (now (list .entry)) (now (directory .entry)) (now (cells .entry))) r (now (answer .exit)) (holds (now (heap .exit)) (now (slots .exit)) (now (scalars .entry)) (now (list .entry)) (now (directory .entry)) (now (cells .entry))) ⌝ }
 {
-    let h = load(heap);
+    let h = record::load(heap);
     let a = allocation::new_cell(h, slots, scalars, list, directory, cells, t, w);
     let next = a.heap;
-    save(heap, next);
+    record::save(heap, next);
     let made = a.answer;
     tell(answer, commands::made(made))
 }
@@ -554,10 +496,10 @@ pub extern "C" fn mch_new_error(
     requires { ⌜ Good (holds (now heap) (now slots) (now scalars) (now list) (now directory) (now cells)) ⌝ }
     ensures { λ r. ⌜ Performs (Calls.new-error kind w) (holds (now (heap .entry)) (now (slots .entry)) (now (scalars .entry)) (now (list .entry)) (now (directory .entry)) (now (cells .entry))) r (now (answer .exit)) (holds (now (heap .exit)) (now (slots .exit)) (now (scalars .entry)) (now (list .entry)) (now (directory .entry)) (now (cells .entry))) ⌝ }
 {
-    let h = load(heap);
+    let h = record::load(heap);
     let a = allocation::new_error(h, slots, scalars, list, directory, cells, kind, w);
     let next = a.heap;
-    save(heap, next);
+    record::save(heap, next);
     let made = a.answer;
     tell(answer, commands::made(made))
 }
@@ -577,10 +519,10 @@ pub extern "C" fn mch_new_box(
     requires { ⌜ Good (holds (now heap) (now slots) (now scalars) (now list) (now directory) (now cells)) ⌝ }
     ensures { λ r. ⌜ Performs (Calls.new-box w) (holds (now (heap .entry)) (now (slots .entry)) (now (scalars .entry)) (now (list .entry)) (now (directory .entry)) (now (cells .entry))) r (now (answer .exit)) (holds (now (heap .exit)) (now (slots .exit)) (now (scalars .entry)) (now (list .entry)) (now (directory .entry)) (now (cells .entry))) ⌝ }
 {
-    let h = load(heap);
+    let h = record::load(heap);
     let a = allocation::new_box(h, slots, scalars, list, directory, cells, w);
     let next = a.heap;
-    save(heap, next);
+    record::save(heap, next);
     let made = a.answer;
     tell(answer, commands::made(made))
 }
@@ -601,10 +543,10 @@ pub extern "C" fn mch_new_array(
     requires { ⌜ Good (holds (now heap) (now slots) (now scalars) (now list) (now directory) (now cells)) ⌝ }
     ensures { λ r. ⌜ Performs (Calls.new-array t length) (holds (now (heap .entry)) (now (slots .entry)) (now (scalars .entry)) (now (list .entry)) (now (directory .entry)) (now (cells .entry))) r (now (answer .exit)) (holds (now (heap .exit)) (now (slots .exit)) (now (scalars .entry)) (now (list .entry)) (now (directory .exit)) (now (cells .exit))) ⌝ }
 {
-    let h = load(heap);
+    let h = record::load(heap);
     let a = allocation::new_array(h, slots, scalars, list, directory, cells, t, length);
     let next = a.heap;
-    save(heap, next);
+    record::save(heap, next);
     let made = a.answer;
     tell(answer, commands::made(made))
 }
@@ -625,10 +567,10 @@ pub extern "C" fn mch_new_map(
     requires { ⌜ Good (holds (now heap) (now slots) (now scalars) (now list) (now directory) (now cells)) ⌝ }
     ensures { λ r. ⌜ Performs (Calls.new-map keys values) (holds (now (heap .entry)) (now (slots .entry)) (now (scalars .entry)) (now (list .entry)) (now (directory .entry)) (now (cells .entry))) r (now (answer .exit)) (holds (now (heap .exit)) (now (slots .exit)) (now (scalars .exit)) (now (list .entry)) (now (directory .entry)) (now (cells .entry))) ⌝ }
 {
-    let h = load(heap);
+    let h = record::load(heap);
     let a = collections::new_map(h, slots, scalars, list, directory, cells, keys, values);
     let next = a.heap;
-    save(heap, next);
+    record::save(heap, next);
     let made = a.answer;
     tell(answer, commands::made(made))
 }
@@ -649,10 +591,10 @@ pub extern "C" fn mch_new_struct(
     requires { ⌜ Good (holds (now heap) (now slots) (now scalars) (now list) (now directory) (now cells)) ⌝ }
     ensures { λ r. ⌜ Performs (Calls.new-struct number (now (fields .entry))) (holds (now (heap .entry)) (now (slots .entry)) (now (scalars .entry)) (now (list .entry)) (now (directory .entry)) (now (cells .entry))) r (now (answer .exit)) (holds (now (heap .exit)) (now (slots .exit)) (now (scalars .entry)) (now (list .entry)) (now (directory .exit)) (now (cells .exit))) ⌝ }
 {
-    let h = load(heap);
+    let h = record::load(heap);
     let a = allocation::new_struct(h, slots, scalars, list, directory, cells, number, fields);
     let next = a.heap;
-    save(heap, next);
+    record::save(heap, next);
     let made = a.answer;
     tell(answer, commands::made(made))
 }
@@ -674,7 +616,7 @@ pub extern "C" fn mch_new_function(
     requires { ⌜ Good (holds (now heap) (now slots) (now scalars) (now list) (now directory) (now cells)) ⌝ }
     ensures { λ r. ⌜ Performs (Calls.new-function (yes import) number (now (captures .entry))) (holds (now (heap .entry)) (now (slots .entry)) (now (scalars .entry)) (now (list .entry)) (now (directory .entry)) (now (cells .entry))) r (now (answer .exit)) (holds (now (heap .exit)) (now (slots .exit)) (now (scalars .entry)) (now (list .entry)) (now (directory .exit)) (now (cells .exit))) ⌝ }
 {
-    let h = load(heap);
+    let h = record::load(heap);
     let a = allocation::new_function(
         h,
         slots,
@@ -687,7 +629,7 @@ pub extern "C" fn mch_new_function(
         captures,
     );
     let next = a.heap;
-    save(heap, next);
+    record::save(heap, next);
     let made = a.answer;
     tell(answer, commands::made(made))
 }
@@ -707,10 +649,10 @@ pub extern "C" fn mch_new_iter(
     requires { ⌜ Good (holds (now heap) (now slots) (now scalars) (now list) (now directory) (now cells)) ⌝ }
     ensures { λ r. ⌜ Performs (Calls.new-iter source) (holds (now (heap .entry)) (now (slots .entry)) (now (scalars .entry)) (now (list .entry)) (now (directory .entry)) (now (cells .entry))) r (now (answer .exit)) (holds (now (heap .exit)) (now (slots .exit)) (now (scalars .exit)) (now (list .entry)) (now (directory .entry)) (now (cells .entry))) ⌝ }
 {
-    let h = load(heap);
+    let h = record::load(heap);
     let a = collections::new_iter(h, slots, scalars, list, directory, cells, source);
     let next = a.heap;
-    save(heap, next);
+    record::save(heap, next);
     let made = a.answer;
     tell(answer, commands::made(made))
 }
@@ -733,7 +675,7 @@ pub extern "C" fn mch_new_coroutine(
     requires { ⌜ Good (holds (now heap) (now slots) (now scalars) (now list) (now directory) (now cells)) ⌝ }
     ensures { λ r. ⌜ Performs (callOf (coroutineIn (now (k .entry))) (now (registers .entry)) (framesIn (now (frames .entry)) 0 (length (now (frames .entry)) / 4))) (holds (now (heap .entry)) (now (slots .entry)) (now (scalars .entry)) (now (list .entry)) (now (directory .entry)) (now (cells .entry))) r (now (answer .exit)) (holds (now (heap .exit)) (now (slots .exit)) (now (scalars .exit)) (now (list .entry)) (now (directory .exit)) (now (cells .exit))) ⌝ }
 {
-    let h = load(heap);
+    let h = record::load(heap);
     let made_with = load_coroutine(k);
     let a = allocation::new_coroutine_flat(
         h,
@@ -747,7 +689,7 @@ pub extern "C" fn mch_new_coroutine(
         frames,
     );
     let next = a.heap;
-    save(heap, next);
+    record::save(heap, next);
     let made = a.answer;
     tell(answer, commands::made(made))
 }
@@ -769,7 +711,7 @@ pub extern "C" fn mch_get(
     requires { ⌜ Good (holds (now heap) (now slots) (now scalars) (now list) (now directory) (now cells)) ⌝ }
     ensures { λ r. ⌜ Reads (Calls.get w) (holds (now (heap .entry)) (now (slots .entry)) (now (scalars .entry)) (now (list .entry)) (now (directory .entry)) (now (cells .entry))) r (now (answer .exit)) ⌝ }
 {
-    let h = load(heap);
+    let h = record::load(heap);
     let a = heap::get(h, slots, scalars, list, directory, cells, w);
     tell(answer, commands::number(a))
 }
@@ -789,7 +731,7 @@ pub extern "C" fn mch_deref(
     requires { ⌜ Good (holds (now heap) (now slots) (now scalars) (now list) (now directory) (now cells)) ⌝ }
     ensures { λ r. ⌜ Reads (Calls.deref-word w) (holds (now (heap .entry)) (now (slots .entry)) (now (scalars .entry)) (now (list .entry)) (now (directory .entry)) (now (cells .entry))) r (now (answer .exit)) ⌝ }
 {
-    let h = load(heap);
+    let h = record::load(heap);
     let a = heap::deref(h, slots, scalars, list, directory, cells, w);
     tell(answer, commands::number(a))
 }
@@ -809,7 +751,7 @@ pub extern "C" fn mch_kind_of(
     requires { ⌜ Good (holds (now heap) (now slots) (now scalars) (now list) (now directory) (now cells)) ⌝ }
     ensures { λ r. ⌜ Reads (Calls.kind-of w) (holds (now (heap .entry)) (now (slots .entry)) (now (scalars .entry)) (now (list .entry)) (now (directory .entry)) (now (cells .entry))) r (now (answer .exit)) ⌝ }
 {
-    let h = load(heap);
+    let h = record::load(heap);
     let a = heap::kind_of(h, slots, scalars, list, directory, cells, w);
     tell(answer, commands::kind(a))
 }
@@ -829,7 +771,7 @@ pub extern "C" fn mch_string_length(
     requires { ⌜ Good (holds (now heap) (now slots) (now scalars) (now list) (now directory) (now cells)) ⌝ }
     ensures { λ r. ⌜ Reads (Calls.string-length w) (holds (now (heap .entry)) (now (slots .entry)) (now (scalars .entry)) (now (list .entry)) (now (directory .entry)) (now (cells .entry))) r (now (answer .exit)) ⌝ }
 {
-    let h = load(heap);
+    let h = record::load(heap);
     let a = access::string_length(h, slots, scalars, list, directory, cells, w);
     tell(answer, commands::reading(a))
 }
@@ -850,7 +792,7 @@ pub extern "C" fn mch_read_string(
     requires { ⌜ Good (holds (now heap) (now slots) (now scalars) (now list) (now directory) (now cells)) ⌝ }
     ensures { λ r. ⌜ ((l : Layout) → ShowsList l (Calls.read-string w (now (buffer .entry))) (holds (now (heap .entry)) (now (slots .entry)) (now (scalars .entry)) (now (list .entry)) (now (directory .entry)) (now (cells .entry))) (told r (now (answer .exit))) (now (buffer .exit)) (holds (now (heap .entry)) (now (slots .entry)) (now (scalars .entry)) (now (list .entry)) (now (directory .entry)) (now (cells .entry)))) ⌝ }
 {
-    let h = load(heap);
+    let h = record::load(heap);
     let a = access::read_string(h, slots, scalars, list, directory, cells, w, buffer);
     tell(answer, commands::reading(a))
 }
@@ -870,7 +812,7 @@ pub extern "C" fn mch_read_integer(
     requires { ⌜ Good (holds (now heap) (now slots) (now scalars) (now list) (now directory) (now cells)) ⌝ }
     ensures { λ r. ⌜ Reads (Calls.read-integer w) (holds (now (heap .entry)) (now (slots .entry)) (now (scalars .entry)) (now (list .entry)) (now (directory .entry)) (now (cells .entry))) r (now (answer .exit)) ⌝ }
 {
-    let h = load(heap);
+    let h = record::load(heap);
     let a = access::read_integer(h, slots, scalars, list, directory, cells, w);
     tell(answer, commands::signed(a))
 }
@@ -890,7 +832,7 @@ pub extern "C" fn mch_read_cell(
     requires { ⌜ Good (holds (now heap) (now slots) (now scalars) (now list) (now directory) (now cells)) ⌝ }
     ensures { λ r. ⌜ Reads (Calls.read-cell w) (holds (now (heap .entry)) (now (slots .entry)) (now (scalars .entry)) (now (list .entry)) (now (directory .entry)) (now (cells .entry))) r (now (answer .exit)) ⌝ }
 {
-    let h = load(heap);
+    let h = record::load(heap);
     let a = access::read_cell(h, slots, scalars, list, directory, cells, w);
     tell(answer, commands::reading(a))
 }
@@ -910,7 +852,7 @@ pub extern "C" fn mch_cell_type(
     requires { ⌜ Good (holds (now heap) (now slots) (now scalars) (now list) (now directory) (now cells)) ⌝ }
     ensures { λ r. ⌜ Reads (Calls.cell-type w) (holds (now (heap .entry)) (now (slots .entry)) (now (scalars .entry)) (now (list .entry)) (now (directory .entry)) (now (cells .entry))) r (now (answer .exit)) ⌝ }
 {
-    let h = load(heap);
+    let h = record::load(heap);
     let a = access::cell_type(h, slots, scalars, list, directory, cells, w);
     tell(answer, commands::reading(a))
 }
@@ -930,7 +872,7 @@ pub extern "C" fn mch_error_kind(
     requires { ⌜ Good (holds (now heap) (now slots) (now scalars) (now list) (now directory) (now cells)) ⌝ }
     ensures { λ r. ⌜ Reads (Calls.error-kind w) (holds (now (heap .entry)) (now (slots .entry)) (now (scalars .entry)) (now (list .entry)) (now (directory .entry)) (now (cells .entry))) r (now (answer .exit)) ⌝ }
 {
-    let h = load(heap);
+    let h = record::load(heap);
     let a = access::error_kind(h, slots, scalars, list, directory, cells, w);
     tell(answer, commands::reading(a))
 }
@@ -950,7 +892,7 @@ pub extern "C" fn mch_error_word(
     requires { ⌜ Good (holds (now heap) (now slots) (now scalars) (now list) (now directory) (now cells)) ⌝ }
     ensures { λ r. ⌜ Reads (Calls.error-word w) (holds (now (heap .entry)) (now (slots .entry)) (now (scalars .entry)) (now (list .entry)) (now (directory .entry)) (now (cells .entry))) r (now (answer .exit)) ⌝ }
 {
-    let h = load(heap);
+    let h = record::load(heap);
     let a = access::error_word(h, slots, scalars, list, directory, cells, w);
     tell(answer, commands::reading(a))
 }
@@ -970,7 +912,7 @@ pub extern "C" fn mch_read_box(
     requires { ⌜ Good (holds (now heap) (now slots) (now scalars) (now list) (now directory) (now cells)) ⌝ }
     ensures { λ r. ⌜ Reads (Calls.read-box w) (holds (now (heap .entry)) (now (slots .entry)) (now (scalars .entry)) (now (list .entry)) (now (directory .entry)) (now (cells .entry))) r (now (answer .exit)) ⌝ }
 {
-    let h = load(heap);
+    let h = record::load(heap);
     let a = access::read_box(h, slots, scalars, list, directory, cells, w);
     tell(answer, commands::reading(a))
 }
@@ -990,7 +932,7 @@ pub extern "C" fn mch_array_type(
     requires { ⌜ Good (holds (now heap) (now slots) (now scalars) (now list) (now directory) (now cells)) ⌝ }
     ensures { λ r. ⌜ Reads (Calls.array-type w) (holds (now (heap .entry)) (now (slots .entry)) (now (scalars .entry)) (now (list .entry)) (now (directory .entry)) (now (cells .entry))) r (now (answer .exit)) ⌝ }
 {
-    let h = load(heap);
+    let h = record::load(heap);
     let a = access::array_type(h, slots, scalars, list, directory, cells, w);
     tell(answer, commands::reading(a))
 }
@@ -1010,7 +952,7 @@ pub extern "C" fn mch_array_length(
     requires { ⌜ Good (holds (now heap) (now slots) (now scalars) (now list) (now directory) (now cells)) ⌝ }
     ensures { λ r. ⌜ Reads (Calls.array-length w) (holds (now (heap .entry)) (now (slots .entry)) (now (scalars .entry)) (now (list .entry)) (now (directory .entry)) (now (cells .entry))) r (now (answer .exit)) ⌝ }
 {
-    let h = load(heap);
+    let h = record::load(heap);
     let a = access::array_length(h, slots, scalars, list, directory, cells, w);
     tell(answer, commands::reading(a))
 }
@@ -1030,7 +972,7 @@ pub extern "C" fn mch_array_capacity(
     requires { ⌜ Good (holds (now heap) (now slots) (now scalars) (now list) (now directory) (now cells)) ⌝ }
     ensures { λ r. ⌜ Reads (Calls.array-capacity w) (holds (now (heap .entry)) (now (slots .entry)) (now (scalars .entry)) (now (list .entry)) (now (directory .entry)) (now (cells .entry))) r (now (answer .exit)) ⌝ }
 {
-    let h = load(heap);
+    let h = record::load(heap);
     let a = access::array_capacity(h, slots, scalars, list, directory, cells, w);
     tell(answer, commands::reading(a))
 }
@@ -1051,7 +993,7 @@ pub extern "C" fn mch_read_item(
     requires { ⌜ Good (holds (now heap) (now slots) (now scalars) (now list) (now directory) (now cells)) ⌝ }
     ensures { λ r. ⌜ Reads (Calls.read-item w i) (holds (now (heap .entry)) (now (slots .entry)) (now (scalars .entry)) (now (list .entry)) (now (directory .entry)) (now (cells .entry))) r (now (answer .exit)) ⌝ }
 {
-    let h = load(heap);
+    let h = record::load(heap);
     let a = access::read_item(h, slots, scalars, list, directory, cells, w, i);
     tell(answer, commands::reading(a))
 }
@@ -1071,7 +1013,7 @@ pub extern "C" fn mch_struct_number(
     requires { ⌜ Good (holds (now heap) (now slots) (now scalars) (now list) (now directory) (now cells)) ⌝ }
     ensures { λ r. ⌜ Reads (Calls.struct-number w) (holds (now (heap .entry)) (now (slots .entry)) (now (scalars .entry)) (now (list .entry)) (now (directory .entry)) (now (cells .entry))) r (now (answer .exit)) ⌝ }
 {
-    let h = load(heap);
+    let h = record::load(heap);
     let a = access::struct_number(h, slots, scalars, list, directory, cells, w);
     tell(answer, commands::reading(a))
 }
@@ -1091,7 +1033,7 @@ pub extern "C" fn mch_field_count(
     requires { ⌜ Good (holds (now heap) (now slots) (now scalars) (now list) (now directory) (now cells)) ⌝ }
     ensures { λ r. ⌜ Reads (Calls.field-count w) (holds (now (heap .entry)) (now (slots .entry)) (now (scalars .entry)) (now (list .entry)) (now (directory .entry)) (now (cells .entry))) r (now (answer .exit)) ⌝ }
 {
-    let h = load(heap);
+    let h = record::load(heap);
     let a = access::field_count(h, slots, scalars, list, directory, cells, w);
     tell(answer, commands::reading(a))
 }
@@ -1112,7 +1054,7 @@ pub extern "C" fn mch_read_field(
     requires { ⌜ Good (holds (now heap) (now slots) (now scalars) (now list) (now directory) (now cells)) ⌝ }
     ensures { λ r. ⌜ Reads (Calls.read-field w i) (holds (now (heap .entry)) (now (slots .entry)) (now (scalars .entry)) (now (list .entry)) (now (directory .entry)) (now (cells .entry))) r (now (answer .exit)) ⌝ }
 {
-    let h = load(heap);
+    let h = record::load(heap);
     let a = access::read_field(h, slots, scalars, list, directory, cells, w, i);
     tell(answer, commands::reading(a))
 }
@@ -1132,7 +1074,7 @@ pub extern "C" fn mch_is_import(
     requires { ⌜ Good (holds (now heap) (now slots) (now scalars) (now list) (now directory) (now cells)) ⌝ }
     ensures { λ r. ⌜ Reads (Calls.is-import w) (holds (now (heap .entry)) (now (slots .entry)) (now (scalars .entry)) (now (list .entry)) (now (directory .entry)) (now (cells .entry))) r (now (answer .exit)) ⌝ }
 {
-    let h = load(heap);
+    let h = record::load(heap);
     let a = access::is_import(h, slots, scalars, list, directory, cells, w);
     tell(answer, commands::test(a))
 }
@@ -1152,7 +1094,7 @@ pub extern "C" fn mch_function_number(
     requires { ⌜ Good (holds (now heap) (now slots) (now scalars) (now list) (now directory) (now cells)) ⌝ }
     ensures { λ r. ⌜ Reads (Calls.function-number w) (holds (now (heap .entry)) (now (slots .entry)) (now (scalars .entry)) (now (list .entry)) (now (directory .entry)) (now (cells .entry))) r (now (answer .exit)) ⌝ }
 {
-    let h = load(heap);
+    let h = record::load(heap);
     let a = access::function_number(h, slots, scalars, list, directory, cells, w);
     tell(answer, commands::reading(a))
 }
@@ -1172,7 +1114,7 @@ pub extern "C" fn mch_capture_count(
     requires { ⌜ Good (holds (now heap) (now slots) (now scalars) (now list) (now directory) (now cells)) ⌝ }
     ensures { λ r. ⌜ Reads (Calls.capture-count w) (holds (now (heap .entry)) (now (slots .entry)) (now (scalars .entry)) (now (list .entry)) (now (directory .entry)) (now (cells .entry))) r (now (answer .exit)) ⌝ }
 {
-    let h = load(heap);
+    let h = record::load(heap);
     let a = access::capture_count(h, slots, scalars, list, directory, cells, w);
     tell(answer, commands::reading(a))
 }
@@ -1193,7 +1135,7 @@ pub extern "C" fn mch_read_capture(
     requires { ⌜ Good (holds (now heap) (now slots) (now scalars) (now list) (now directory) (now cells)) ⌝ }
     ensures { λ r. ⌜ Reads (Calls.read-capture w i) (holds (now (heap .entry)) (now (slots .entry)) (now (scalars .entry)) (now (list .entry)) (now (directory .entry)) (now (cells .entry))) r (now (answer .exit)) ⌝ }
 {
-    let h = load(heap);
+    let h = record::load(heap);
     let a = access::read_capture(h, slots, scalars, list, directory, cells, w, i);
     tell(answer, commands::reading(a))
 }
@@ -1213,7 +1155,7 @@ pub extern "C" fn mch_read_state(
     requires { ⌜ Good (holds (now heap) (now slots) (now scalars) (now list) (now directory) (now cells)) ⌝ }
     ensures { λ r. ⌜ Reads (Calls.read-state w) (holds (now (heap .entry)) (now (slots .entry)) (now (scalars .entry)) (now (list .entry)) (now (directory .entry)) (now (cells .entry))) r (now (answer .exit)) ⌝ }
 {
-    let h = load(heap);
+    let h = record::load(heap);
     let a = access::read_state(h, slots, scalars, list, directory, cells, w);
     tell(answer, commands::reading(a))
 }
@@ -1233,7 +1175,7 @@ pub extern "C" fn mch_read_payload(
     requires { ⌜ Good (holds (now heap) (now slots) (now scalars) (now list) (now directory) (now cells)) ⌝ }
     ensures { λ r. ⌜ Reads (Calls.read-part w Parts.payload) (holds (now (heap .entry)) (now (slots .entry)) (now (scalars .entry)) (now (list .entry)) (now (directory .entry)) (now (cells .entry))) r (now (answer .exit)) ⌝ }
 {
-    let h = load(heap);
+    let h = record::load(heap);
     let a = access::read_payload(h, slots, scalars, list, directory, cells, w);
     tell(answer, commands::reading(a))
 }
@@ -1253,7 +1195,7 @@ pub extern "C" fn mch_read_key(
     requires { ⌜ Good (holds (now heap) (now slots) (now scalars) (now list) (now directory) (now cells)) ⌝ }
     ensures { λ r. ⌜ Reads (Calls.read-part w Parts.key) (holds (now (heap .entry)) (now (slots .entry)) (now (scalars .entry)) (now (list .entry)) (now (directory .entry)) (now (cells .entry))) r (now (answer .exit)) ⌝ }
 {
-    let h = load(heap);
+    let h = record::load(heap);
     let a = access::read_key(h, slots, scalars, list, directory, cells, w);
     tell(answer, commands::reading(a))
 }
@@ -1273,7 +1215,7 @@ pub extern "C" fn mch_read_result(
     requires { ⌜ Good (holds (now heap) (now slots) (now scalars) (now list) (now directory) (now cells)) ⌝ }
     ensures { λ r. ⌜ Reads (Calls.read-part w Parts.result) (holds (now (heap .entry)) (now (slots .entry)) (now (scalars .entry)) (now (list .entry)) (now (directory .entry)) (now (cells .entry))) r (now (answer .exit)) ⌝ }
 {
-    let h = load(heap);
+    let h = record::load(heap);
     let a = access::read_result(h, slots, scalars, list, directory, cells, w);
     tell(answer, commands::reading(a))
 }
@@ -1293,7 +1235,7 @@ pub extern "C" fn mch_read_signal(
     requires { ⌜ Good (holds (now heap) (now slots) (now scalars) (now list) (now directory) (now cells)) ⌝ }
     ensures { λ r. ⌜ Reads (Calls.read-part w Parts.signal) (holds (now (heap .entry)) (now (slots .entry)) (now (scalars .entry)) (now (list .entry)) (now (directory .entry)) (now (cells .entry))) r (now (answer .exit)) ⌝ }
 {
-    let h = load(heap);
+    let h = record::load(heap);
     let a = access::read_signal(h, slots, scalars, list, directory, cells, w);
     tell(answer, commands::reading(a))
 }
@@ -1313,7 +1255,7 @@ pub extern "C" fn mch_coroutine_sequence(
     requires { ⌜ Good (holds (now heap) (now slots) (now scalars) (now list) (now directory) (now cells)) ⌝ }
     ensures { λ r. ⌜ Reads (Calls.coroutine-sequence w) (holds (now (heap .entry)) (now (slots .entry)) (now (scalars .entry)) (now (list .entry)) (now (directory .entry)) (now (cells .entry))) r (now (answer .exit)) ⌝ }
 {
-    let h = load(heap);
+    let h = record::load(heap);
     let a = access::coroutine_sequence(h, slots, scalars, list, directory, cells, w);
     tell(answer, commands::reading(a))
 }
@@ -1333,7 +1275,7 @@ pub extern "C" fn mch_coroutine_finalized(
     requires { ⌜ Good (holds (now heap) (now slots) (now scalars) (now list) (now directory) (now cells)) ⌝ }
     ensures { λ r. ⌜ Reads (Calls.coroutine-finalized w) (holds (now (heap .entry)) (now (slots .entry)) (now (scalars .entry)) (now (list .entry)) (now (directory .entry)) (now (cells .entry))) r (now (answer .exit)) ⌝ }
 {
-    let h = load(heap);
+    let h = record::load(heap);
     let a = access::coroutine_finalized(h, slots, scalars, list, directory, cells, w);
     tell(answer, commands::test(a))
 }
@@ -1353,7 +1295,7 @@ pub extern "C" fn mch_register_count(
     requires { ⌜ Good (holds (now heap) (now slots) (now scalars) (now list) (now directory) (now cells)) ⌝ }
     ensures { λ r. ⌜ Reads (Calls.register-count w) (holds (now (heap .entry)) (now (slots .entry)) (now (scalars .entry)) (now (list .entry)) (now (directory .entry)) (now (cells .entry))) r (now (answer .exit)) ⌝ }
 {
-    let h = load(heap);
+    let h = record::load(heap);
     let a = access::register_count(h, slots, scalars, list, directory, cells, w);
     tell(answer, commands::reading(a))
 }
@@ -1373,7 +1315,7 @@ pub extern "C" fn mch_frame_count(
     requires { ⌜ Good (holds (now heap) (now slots) (now scalars) (now list) (now directory) (now cells)) ⌝ }
     ensures { λ r. ⌜ Reads (Calls.frame-count w) (holds (now (heap .entry)) (now (slots .entry)) (now (scalars .entry)) (now (list .entry)) (now (directory .entry)) (now (cells .entry))) r (now (answer .exit)) ⌝ }
 {
-    let h = load(heap);
+    let h = record::load(heap);
     let a = access::frame_count(h, slots, scalars, list, directory, cells, w);
     tell(answer, commands::reading(a))
 }
@@ -1394,7 +1336,7 @@ pub extern "C" fn mch_read_frame(
     requires { ⌜ Good (holds (now heap) (now slots) (now scalars) (now list) (now directory) (now cells)) ⌝ }
     ensures { λ r. ⌜ Reads (Calls.read-frame w i) (holds (now (heap .entry)) (now (slots .entry)) (now (scalars .entry)) (now (list .entry)) (now (directory .entry)) (now (cells .entry))) r (now (answer .exit)) ⌝ }
 {
-    let h = load(heap);
+    let h = record::load(heap);
     let a = access::read_frame(h, slots, scalars, list, directory, cells, w, i);
     tell(answer, commands::frame(a))
 }
@@ -1415,7 +1357,7 @@ pub extern "C" fn mch_read_register(
     requires { ⌜ Good (holds (now heap) (now slots) (now scalars) (now list) (now directory) (now cells)) ⌝ }
     ensures { λ r. ⌜ Reads (Calls.read-register w i) (holds (now (heap .entry)) (now (slots .entry)) (now (scalars .entry)) (now (list .entry)) (now (directory .entry)) (now (cells .entry))) r (now (answer .exit)) ⌝ }
 {
-    let h = load(heap);
+    let h = record::load(heap);
     let a = access::read_register(h, slots, scalars, list, directory, cells, w, i);
     tell(answer, commands::reading(a))
 }
@@ -1438,7 +1380,7 @@ pub extern "C" fn mch_store_cell(
     requires { ⌜ Good (holds (now heap) (now slots) (now scalars) (now list) (now directory) (now cells)) ⌝ }
     ensures { λ r. ⌜ Performs (Calls.store-cell w v) (holds (now (heap .entry)) (now (slots .entry)) (now (scalars .entry)) (now (list .entry)) (now (directory .entry)) (now (cells .entry))) r (now (answer .exit)) (holds (now (heap .entry)) (now (slots .exit)) (now (scalars .entry)) (now (list .entry)) (now (directory .entry)) (now (cells .entry))) ⌝ }
 {
-    let h = load(heap);
+    let h = record::load(heap);
     let a = access::store_cell(h, slots, scalars, list, directory, cells, w, v);
     tell(answer, commands::done(a))
 }
@@ -1459,7 +1401,7 @@ pub extern "C" fn mch_store_box(
     requires { ⌜ Good (holds (now heap) (now slots) (now scalars) (now list) (now directory) (now cells)) ⌝ }
     ensures { λ r. ⌜ Performs (Calls.store-box w v) (holds (now (heap .entry)) (now (slots .entry)) (now (scalars .entry)) (now (list .entry)) (now (directory .entry)) (now (cells .entry))) r (now (answer .exit)) (holds (now (heap .entry)) (now (slots .exit)) (now (scalars .entry)) (now (list .entry)) (now (directory .entry)) (now (cells .entry))) ⌝ }
 {
-    let h = load(heap);
+    let h = record::load(heap);
     let a = access::store_box(h, slots, scalars, list, directory, cells, w, v);
     tell(answer, commands::done(a))
 }
@@ -1481,7 +1423,7 @@ pub extern "C" fn mch_store_item(
     requires { ⌜ Good (holds (now heap) (now slots) (now scalars) (now list) (now directory) (now cells)) ⌝ }
     ensures { λ r. ⌜ Performs (Calls.store-item w i v) (holds (now (heap .entry)) (now (slots .entry)) (now (scalars .entry)) (now (list .entry)) (now (directory .entry)) (now (cells .entry))) r (now (answer .exit)) (holds (now (heap .entry)) (now (slots .entry)) (now (scalars .entry)) (now (list .entry)) (now (directory .entry)) (now (cells .exit))) ⌝ }
 {
-    let h = load(heap);
+    let h = record::load(heap);
     let a = access::store_item(h, slots, scalars, list, directory, cells, w, i, v);
     tell(answer, commands::done(a))
 }
@@ -1502,10 +1444,10 @@ pub extern "C" fn mch_push(
     requires { ⌜ Good (holds (now heap) (now slots) (now scalars) (now list) (now directory) (now cells)) ⌝ }
     ensures { λ r. ⌜ Performs (Calls.push w v) (holds (now (heap .entry)) (now (slots .entry)) (now (scalars .entry)) (now (list .entry)) (now (directory .entry)) (now (cells .entry))) r (now (answer .exit)) (holds (now (heap .exit)) (now (slots .exit)) (now (scalars .entry)) (now (list .entry)) (now (directory .exit)) (now (cells .exit))) ⌝ }
 {
-    let h = load(heap);
+    let h = record::load(heap);
     let a = collections::push(h, slots, scalars, list, directory, cells, w, v);
     let next = a.heap;
-    save(heap, next);
+    record::save(heap, next);
     let done = a.done;
     tell(answer, commands::done(done))
 }
@@ -1525,7 +1467,7 @@ pub extern "C" fn mch_pop(
     requires { ⌜ Good (holds (now heap) (now slots) (now scalars) (now list) (now directory) (now cells)) ⌝ }
     ensures { λ r. ⌜ Performs (Calls.pop w) (holds (now (heap .entry)) (now (slots .entry)) (now (scalars .entry)) (now (list .entry)) (now (directory .entry)) (now (cells .entry))) r (now (answer .exit)) (holds (now (heap .entry)) (now (slots .exit)) (now (scalars .entry)) (now (list .entry)) (now (directory .entry)) (now (cells .entry))) ⌝ }
 {
-    let h = load(heap);
+    let h = record::load(heap);
     let a = collections::pop(h, slots, scalars, list, directory, cells, w);
     tell(answer, commands::reading(a))
 }
@@ -1547,7 +1489,7 @@ pub extern "C" fn mch_store_field(
     requires { ⌜ Good (holds (now heap) (now slots) (now scalars) (now list) (now directory) (now cells)) ⌝ }
     ensures { λ r. ⌜ Performs (Calls.store-field w i v) (holds (now (heap .entry)) (now (slots .entry)) (now (scalars .entry)) (now (list .entry)) (now (directory .entry)) (now (cells .entry))) r (now (answer .exit)) (holds (now (heap .entry)) (now (slots .entry)) (now (scalars .entry)) (now (list .entry)) (now (directory .entry)) (now (cells .exit))) ⌝ }
 {
-    let h = load(heap);
+    let h = record::load(heap);
     let a = access::store_field(h, slots, scalars, list, directory, cells, w, i, v);
     tell(answer, commands::done(a))
 }
@@ -1569,7 +1511,7 @@ pub extern "C" fn mch_store_capture(
     requires { ⌜ Good (holds (now heap) (now slots) (now scalars) (now list) (now directory) (now cells)) ⌝ }
     ensures { λ r. ⌜ Performs (Calls.store-capture w i v) (holds (now (heap .entry)) (now (slots .entry)) (now (scalars .entry)) (now (list .entry)) (now (directory .entry)) (now (cells .entry))) r (now (answer .exit)) (holds (now (heap .entry)) (now (slots .entry)) (now (scalars .entry)) (now (list .entry)) (now (directory .entry)) (now (cells .exit))) ⌝ }
 {
-    let h = load(heap);
+    let h = record::load(heap);
     let a = access::store_capture(h, slots, scalars, list, directory, cells, w, i, v);
     tell(answer, commands::done(a))
 }
@@ -1591,7 +1533,7 @@ pub extern "C" fn mch_store_register(
     requires { ⌜ Good (holds (now heap) (now slots) (now scalars) (now list) (now directory) (now cells)) ⌝ }
     ensures { λ r. ⌜ Performs (Calls.store-register w i v) (holds (now (heap .entry)) (now (slots .entry)) (now (scalars .entry)) (now (list .entry)) (now (directory .entry)) (now (cells .entry))) r (now (answer .exit)) (holds (now (heap .entry)) (now (slots .entry)) (now (scalars .entry)) (now (list .entry)) (now (directory .entry)) (now (cells .exit))) ⌝ }
 {
-    let h = load(heap);
+    let h = record::load(heap);
     let a = access::store_register(h, slots, scalars, list, directory, cells, w, i, v);
     tell(answer, commands::done(a))
 }
@@ -1612,7 +1554,7 @@ pub extern "C" fn mch_store_payload(
     requires { ⌜ Good (holds (now heap) (now slots) (now scalars) (now list) (now directory) (now cells)) ⌝ }
     ensures { λ r. ⌜ Performs (Calls.store-part w Parts.payload v) (holds (now (heap .entry)) (now (slots .entry)) (now (scalars .entry)) (now (list .entry)) (now (directory .entry)) (now (cells .entry))) r (now (answer .exit)) (holds (now (heap .entry)) (now (slots .entry)) (now (scalars .exit)) (now (list .entry)) (now (directory .entry)) (now (cells .entry))) ⌝ }
 {
-    let h = load(heap);
+    let h = record::load(heap);
     let a = access::store_payload(h, slots, scalars, list, directory, cells, w, v);
     tell(answer, commands::done(a))
 }
@@ -1633,7 +1575,7 @@ pub extern "C" fn mch_store_key(
     requires { ⌜ Good (holds (now heap) (now slots) (now scalars) (now list) (now directory) (now cells)) ⌝ }
     ensures { λ r. ⌜ Performs (Calls.store-part w Parts.key v) (holds (now (heap .entry)) (now (slots .entry)) (now (scalars .entry)) (now (list .entry)) (now (directory .entry)) (now (cells .entry))) r (now (answer .exit)) (holds (now (heap .entry)) (now (slots .entry)) (now (scalars .exit)) (now (list .entry)) (now (directory .entry)) (now (cells .entry))) ⌝ }
 {
-    let h = load(heap);
+    let h = record::load(heap);
     let a = access::store_key(h, slots, scalars, list, directory, cells, w, v);
     tell(answer, commands::done(a))
 }
@@ -1654,7 +1596,7 @@ pub extern "C" fn mch_store_result(
     requires { ⌜ Good (holds (now heap) (now slots) (now scalars) (now list) (now directory) (now cells)) ⌝ }
     ensures { λ r. ⌜ Performs (Calls.store-part w Parts.result v) (holds (now (heap .entry)) (now (slots .entry)) (now (scalars .entry)) (now (list .entry)) (now (directory .entry)) (now (cells .entry))) r (now (answer .exit)) (holds (now (heap .entry)) (now (slots .entry)) (now (scalars .exit)) (now (list .entry)) (now (directory .entry)) (now (cells .entry))) ⌝ }
 {
-    let h = load(heap);
+    let h = record::load(heap);
     let a = access::store_result(h, slots, scalars, list, directory, cells, w, v);
     tell(answer, commands::done(a))
 }
@@ -1675,7 +1617,7 @@ pub extern "C" fn mch_store_signal(
     requires { ⌜ Good (holds (now heap) (now slots) (now scalars) (now list) (now directory) (now cells)) ⌝ }
     ensures { λ r. ⌜ Performs (Calls.store-part w Parts.signal v) (holds (now (heap .entry)) (now (slots .entry)) (now (scalars .entry)) (now (list .entry)) (now (directory .entry)) (now (cells .entry))) r (now (answer .exit)) (holds (now (heap .entry)) (now (slots .entry)) (now (scalars .exit)) (now (list .entry)) (now (directory .entry)) (now (cells .entry))) ⌝ }
 {
-    let h = load(heap);
+    let h = record::load(heap);
     let a = access::store_signal(h, slots, scalars, list, directory, cells, w, v);
     tell(answer, commands::done(a))
 }
@@ -1696,7 +1638,7 @@ pub extern "C" fn mch_set_state(
     requires { ⌜ Good (holds (now heap) (now slots) (now scalars) (now list) (now directory) (now cells)) ⌝ }
     ensures { λ r. ⌜ Performs (Calls.set-state w s) (holds (now (heap .entry)) (now (slots .entry)) (now (scalars .entry)) (now (list .entry)) (now (directory .entry)) (now (cells .entry))) r (now (answer .exit)) (holds (now (heap .entry)) (now (slots .exit)) (now (scalars .entry)) (now (list .entry)) (now (directory .entry)) (now (cells .entry))) ⌝ }
 {
-    let h = load(heap);
+    let h = record::load(heap);
     let a = access::set_state(h, slots, scalars, list, directory, cells, w, s);
     tell(answer, commands::done(a))
 }
@@ -1721,7 +1663,7 @@ pub extern "C" fn mch_put(
     requires { ⌜ Good (holds (now heap) (now slots) (now scalars) (now list) (now directory) (now cells)) ⌝ }
     ensures { λ r. ⌜ Performs (Calls.put w hash key value) (holds (now (heap .entry)) (now (slots .entry)) (now (scalars .entry)) (now (list .entry)) (now (directory .entry)) (now (cells .entry))) r (now (answer .exit)) (holds (now (heap .exit)) (now (slots .exit)) (now (scalars .exit)) (now (list .entry)) (now (directory .exit)) (now (cells .exit))) ⌝ }
 {
-    let h = load(heap);
+    let h = record::load(heap);
     let a = collections::put(
         h,
         slots,
@@ -1735,7 +1677,7 @@ pub extern "C" fn mch_put(
         value,
     );
     let next = a.heap;
-    save(heap, next);
+    record::save(heap, next);
     let done = a.done;
     tell(answer, commands::done(done))
 }
@@ -1758,7 +1700,7 @@ pub extern "C" fn mch_insert_entry(
     requires { ⌜ Good (holds (now heap) (now slots) (now scalars) (now list) (now directory) (now cells)) ⌝ }
     ensures { λ r. ⌜ Performs (Calls.insert-entry w hash key value) (holds (now (heap .entry)) (now (slots .entry)) (now (scalars .entry)) (now (list .entry)) (now (directory .entry)) (now (cells .entry))) r (now (answer .exit)) (holds (now (heap .exit)) (now (slots .exit)) (now (scalars .exit)) (now (list .entry)) (now (directory .exit)) (now (cells .exit))) ⌝ }
 {
-    let h = load(heap);
+    let h = record::load(heap);
     let a = collections::insert_entry(
         h,
         slots,
@@ -1772,7 +1714,7 @@ pub extern "C" fn mch_insert_entry(
         value,
     );
     let next = a.heap;
-    save(heap, next);
+    record::save(heap, next);
     let done = a.done;
     tell(answer, commands::done(done))
 }
@@ -1794,7 +1736,7 @@ pub extern "C" fn mch_find(
     requires { ⌜ Good (holds (now heap) (now slots) (now scalars) (now list) (now directory) (now cells)) ⌝ }
     ensures { λ r. ⌜ Reads (Calls.find w hash key) (holds (now (heap .entry)) (now (slots .entry)) (now (scalars .entry)) (now (list .entry)) (now (directory .entry)) (now (cells .entry))) r (now (answer .exit)) ⌝ }
 {
-    let h = load(heap);
+    let h = record::load(heap);
     let a = collections::find(h, slots, scalars, list, directory, cells, w, hash, key);
     tell(answer, commands::perhaps(a))
 }
@@ -1816,10 +1758,10 @@ pub extern "C" fn mch_remove(
     requires { ⌜ Good (holds (now heap) (now slots) (now scalars) (now list) (now directory) (now cells)) ⌝ }
     ensures { λ r. ⌜ Performs (Calls.remove w hash key) (holds (now (heap .entry)) (now (slots .entry)) (now (scalars .entry)) (now (list .entry)) (now (directory .entry)) (now (cells .entry))) r (now (answer .exit)) (holds (now (heap .exit)) (now (slots .exit)) (now (scalars .exit)) (now (list .entry)) (now (directory .exit)) (now (cells .exit))) ⌝ }
 {
-    let h = load(heap);
+    let h = record::load(heap);
     let a = collections::remove(h, slots, scalars, list, directory, cells, w, hash, key);
     let next = a.heap;
-    save(heap, next);
+    record::save(heap, next);
     let done = a.done;
     tell(answer, commands::done(done))
 }
@@ -1840,10 +1782,10 @@ pub extern "C" fn mch_remove_at(
     requires { ⌜ Good (holds (now heap) (now slots) (now scalars) (now list) (now directory) (now cells)) ⌝ }
     ensures { λ r. ⌜ Performs (Calls.remove-at w pos) (holds (now (heap .entry)) (now (slots .entry)) (now (scalars .entry)) (now (list .entry)) (now (directory .entry)) (now (cells .entry))) r (now (answer .exit)) (holds (now (heap .exit)) (now (slots .exit)) (now (scalars .exit)) (now (list .entry)) (now (directory .exit)) (now (cells .exit))) ⌝ }
 {
-    let h = load(heap);
+    let h = record::load(heap);
     let a = collections::remove_at(h, slots, scalars, list, directory, cells, w, pos);
     let next = a.heap;
-    save(heap, next);
+    record::save(heap, next);
     let done = a.done;
     tell(answer, commands::done(done))
 }
@@ -1864,7 +1806,7 @@ pub extern "C" fn mch_read_entry(
     requires { ⌜ Good (holds (now heap) (now slots) (now scalars) (now list) (now directory) (now cells)) ⌝ }
     ensures { λ r. ⌜ Reads (Calls.read-entry w pos) (holds (now (heap .entry)) (now (slots .entry)) (now (scalars .entry)) (now (list .entry)) (now (directory .entry)) (now (cells .entry))) r (now (answer .exit)) ⌝ }
 {
-    let h = load(heap);
+    let h = record::load(heap);
     let a = collections::read_entry(h, slots, scalars, list, directory, cells, w, pos);
     tell(answer, commands::entry(a))
 }
@@ -1886,7 +1828,7 @@ pub extern "C" fn mch_set_value(
     requires { ⌜ Good (holds (now heap) (now slots) (now scalars) (now list) (now directory) (now cells)) ⌝ }
     ensures { λ r. ⌜ Performs (Calls.set-value w pos v) (holds (now (heap .entry)) (now (slots .entry)) (now (scalars .entry)) (now (list .entry)) (now (directory .entry)) (now (cells .entry))) r (now (answer .exit)) (holds (now (heap .entry)) (now (slots .entry)) (now (scalars .entry)) (now (list .entry)) (now (directory .entry)) (now (cells .exit))) ⌝ }
 {
-    let h = load(heap);
+    let h = record::load(heap);
     let a = collections::set_value(h, slots, scalars, list, directory, cells, w, pos, v);
     tell(answer, commands::done(a))
 }
@@ -1907,7 +1849,7 @@ pub extern "C" fn mch_note(
     requires { ⌜ Good (holds (now heap) (now slots) (now scalars) (now list) (now directory) (now cells)) ⌝ }
     ensures { λ r. ⌜ Performs (Calls.note w k) (holds (now (heap .entry)) (now (slots .entry)) (now (scalars .entry)) (now (list .entry)) (now (directory .entry)) (now (cells .entry))) r (now (answer .exit)) (holds (now (heap .entry)) (now (slots .exit)) (now (scalars .exit)) (now (list .entry)) (now (directory .entry)) (now (cells .entry))) ⌝ }
 {
-    let h = load(heap);
+    let h = record::load(heap);
     let a = collections::note(h, slots, scalars, list, directory, cells, w, k);
     tell(answer, commands::done(a))
 }
@@ -1927,7 +1869,7 @@ pub extern "C" fn mch_next_key(
     requires { ⌜ Good (holds (now heap) (now slots) (now scalars) (now list) (now directory) (now cells)) ⌝ }
     ensures { λ r. ⌜ Reads (Calls.next-key w) (holds (now (heap .entry)) (now (slots .entry)) (now (scalars .entry)) (now (list .entry)) (now (directory .entry)) (now (cells .entry))) r (now (answer .exit)) ⌝ }
 {
-    let h = load(heap);
+    let h = record::load(heap);
     let a = collections::next_key(h, slots, scalars, list, directory, cells, w);
     tell(answer, commands::next_int(a))
 }
@@ -1947,7 +1889,7 @@ pub extern "C" fn mch_noted_key(
     requires { ⌜ Good (holds (now heap) (now slots) (now scalars) (now list) (now directory) (now cells)) ⌝ }
     ensures { λ r. ⌜ Reads (Calls.noted-key w) (holds (now (heap .entry)) (now (slots .entry)) (now (scalars .entry)) (now (list .entry)) (now (directory .entry)) (now (cells .entry))) r (now (answer .exit)) ⌝ }
 {
-    let h = load(heap);
+    let h = record::load(heap);
     let a = collections::noted_key(h, slots, scalars, list, directory, cells, w);
     tell(answer, commands::noted(a))
 }
@@ -1970,7 +1912,7 @@ pub extern "C" fn mch_next(
     ensures { λ r. ⌜ Reads (Calls.next w (cursorIn (now (cursor .entry)))) (holds (now (heap .entry)) (now (slots .entry)) (now (scalars .entry)) (now (list .entry)) (now (directory .entry)) (now (cells .entry))) r (now (answer .exit)) ⌝ }
     ensures { λ r. ⌜ now (cursor .exit) ≡ cursorOut (told r (now (answer .exit))) (now (cursor .entry)) ⌝ }
 {
-    let h = load(heap);
+    let h = record::load(heap);
     let c = load_cursor(cursor);
     let a = collections::step_cursor(h, slots, scalars, list, directory, cells, w, c);
     let s = commands::moved(c, a);
@@ -1993,7 +1935,7 @@ pub extern "C" fn mch_live_count(
     requires { ⌜ Good (holds (now heap) (now slots) (now scalars) (now list) (now directory) (now cells)) ⌝ }
     ensures { λ r. ⌜ Reads (Calls.live-count w) (holds (now (heap .entry)) (now (slots .entry)) (now (scalars .entry)) (now (list .entry)) (now (directory .entry)) (now (cells .entry))) r (now (answer .exit)) ⌝ }
 {
-    let h = load(heap);
+    let h = record::load(heap);
     let a = collections::live_count(h, slots, scalars, list, directory, cells, w);
     tell(answer, commands::reading(a))
 }
@@ -2013,7 +1955,7 @@ pub extern "C" fn mch_place_count(
     requires { ⌜ Good (holds (now heap) (now slots) (now scalars) (now list) (now directory) (now cells)) ⌝ }
     ensures { λ r. ⌜ Reads (Calls.place-count w) (holds (now (heap .entry)) (now (slots .entry)) (now (scalars .entry)) (now (list .entry)) (now (directory .entry)) (now (cells .entry))) r (now (answer .exit)) ⌝ }
 {
-    let h = load(heap);
+    let h = record::load(heap);
     let a = collections::place_count(h, slots, scalars, list, directory, cells, w);
     tell(answer, commands::reading(a))
 }
@@ -2033,7 +1975,7 @@ pub extern "C" fn mch_is_hashed(
     requires { ⌜ Good (holds (now heap) (now slots) (now scalars) (now list) (now directory) (now cells)) ⌝ }
     ensures { λ r. ⌜ Reads (Calls.is-hashed w) (holds (now (heap .entry)) (now (slots .entry)) (now (scalars .entry)) (now (list .entry)) (now (directory .entry)) (now (cells .entry))) r (now (answer .exit)) ⌝ }
 {
-    let h = load(heap);
+    let h = record::load(heap);
     let a = collections::is_hashed(h, slots, scalars, list, directory, cells, w);
     tell(answer, commands::test(a))
 }
@@ -2053,7 +1995,7 @@ pub extern "C" fn mch_key_type(
     requires { ⌜ Good (holds (now heap) (now slots) (now scalars) (now list) (now directory) (now cells)) ⌝ }
     ensures { λ r. ⌜ Reads (Calls.key-type w) (holds (now (heap .entry)) (now (slots .entry)) (now (scalars .entry)) (now (list .entry)) (now (directory .entry)) (now (cells .entry))) r (now (answer .exit)) ⌝ }
 {
-    let h = load(heap);
+    let h = record::load(heap);
     let a = collections::key_type(h, slots, scalars, list, directory, cells, w);
     tell(answer, commands::reading(a))
 }
@@ -2073,7 +2015,7 @@ pub extern "C" fn mch_value_type(
     requires { ⌜ Good (holds (now heap) (now slots) (now scalars) (now list) (now directory) (now cells)) ⌝ }
     ensures { λ r. ⌜ Reads (Calls.value-type w) (holds (now (heap .entry)) (now (slots .entry)) (now (scalars .entry)) (now (list .entry)) (now (directory .entry)) (now (cells .entry))) r (now (answer .exit)) ⌝ }
 {
-    let h = load(heap);
+    let h = record::load(heap);
     let a = collections::value_type(h, slots, scalars, list, directory, cells, w);
     tell(answer, commands::reading(a))
 }
@@ -2093,7 +2035,7 @@ pub extern "C" fn mch_map_epoch(
     requires { ⌜ Good (holds (now heap) (now slots) (now scalars) (now list) (now directory) (now cells)) ⌝ }
     ensures { λ r. ⌜ Reads (Calls.map-epoch w) (holds (now (heap .entry)) (now (slots .entry)) (now (scalars .entry)) (now (list .entry)) (now (directory .entry)) (now (cells .entry))) r (now (answer .exit)) ⌝ }
 {
-    let h = load(heap);
+    let h = record::load(heap);
     let a = collections::map_epoch(h, slots, scalars, list, directory, cells, w);
     tell(answer, commands::reading(a))
 }
@@ -2113,7 +2055,7 @@ pub extern "C" fn mch_next_sequence(
     requires { ⌜ Good (holds (now heap) (now slots) (now scalars) (now list) (now directory) (now cells)) ⌝ }
     ensures { λ r. ⌜ Reads (Calls.next-sequence w) (holds (now (heap .entry)) (now (slots .entry)) (now (scalars .entry)) (now (list .entry)) (now (directory .entry)) (now (cells .entry))) r (now (answer .exit)) ⌝ }
 {
-    let h = load(heap);
+    let h = record::load(heap);
     let a = collections::next_sequence(h, slots, scalars, list, directory, cells, w);
     tell(answer, commands::reading(a))
 }
@@ -2133,7 +2075,7 @@ pub extern "C" fn mch_entry_capacity(
     requires { ⌜ Good (holds (now heap) (now slots) (now scalars) (now list) (now directory) (now cells)) ⌝ }
     ensures { λ r. ⌜ Reads (Calls.entry-capacity w) (holds (now (heap .entry)) (now (slots .entry)) (now (scalars .entry)) (now (list .entry)) (now (directory .entry)) (now (cells .entry))) r (now (answer .exit)) ⌝ }
 {
-    let h = load(heap);
+    let h = record::load(heap);
     let a = collections::entry_capacity(h, slots, scalars, list, directory, cells, w);
     tell(answer, commands::reading(a))
 }
@@ -2153,7 +2095,7 @@ pub extern "C" fn mch_index_length(
     requires { ⌜ Good (holds (now heap) (now slots) (now scalars) (now list) (now directory) (now cells)) ⌝ }
     ensures { λ r. ⌜ Reads (Calls.index-length w) (holds (now (heap .entry)) (now (slots .entry)) (now (scalars .entry)) (now (list .entry)) (now (directory .entry)) (now (cells .entry))) r (now (answer .exit)) ⌝ }
 {
-    let h = load(heap);
+    let h = record::load(heap);
     let a = collections::index_length(h, slots, scalars, list, directory, cells, w);
     tell(answer, commands::reading(a))
 }
@@ -2174,7 +2116,7 @@ pub extern "C" fn mch_growth_bytes(
     requires { ⌜ Good (holds (now heap) (now slots) (now scalars) (now list) (now directory) (now cells)) ⌝ }
     ensures { λ r. ⌜ Reads (Calls.growth-bytes w key) (holds (now (heap .entry)) (now (slots .entry)) (now (scalars .entry)) (now (list .entry)) (now (directory .entry)) (now (cells .entry))) r (now (answer .exit)) ⌝ }
 {
-    let h = load(heap);
+    let h = record::load(heap);
     let a = collections::growth_bytes(h, slots, scalars, list, directory, cells, w, key);
     tell(answer, commands::reading(a))
 }
@@ -2194,7 +2136,7 @@ pub extern "C" fn mch_iter_next(
     requires { ⌜ Good (holds (now heap) (now slots) (now scalars) (now list) (now directory) (now cells)) ⌝ }
     ensures { λ r. ⌜ Performs (Calls.iter-next w) (holds (now (heap .entry)) (now (slots .entry)) (now (scalars .entry)) (now (list .entry)) (now (directory .entry)) (now (cells .entry))) r (now (answer .exit)) (holds (now (heap .entry)) (now (slots .entry)) (now (scalars .exit)) (now (list .entry)) (now (directory .entry)) (now (cells .entry))) ⌝ }
 {
-    let h = load(heap);
+    let h = record::load(heap);
     let a = collections::iter_next(h, slots, scalars, list, directory, cells, w);
     tell(answer, commands::perhaps(a))
 }
@@ -2214,7 +2156,7 @@ pub extern "C" fn mch_iter_key(
     requires { ⌜ Good (holds (now heap) (now slots) (now scalars) (now list) (now directory) (now cells)) ⌝ }
     ensures { λ r. ⌜ Reads (Calls.iter-key w) (holds (now (heap .entry)) (now (slots .entry)) (now (scalars .entry)) (now (list .entry)) (now (directory .entry)) (now (cells .entry))) r (now (answer .exit)) ⌝ }
 {
-    let h = load(heap);
+    let h = record::load(heap);
     let a = collections::iter_key(h, slots, scalars, list, directory, cells, w);
     tell(answer, commands::perhaps(a))
 }
@@ -2234,7 +2176,7 @@ pub extern "C" fn mch_iter_source(
     requires { ⌜ Good (holds (now heap) (now slots) (now scalars) (now list) (now directory) (now cells)) ⌝ }
     ensures { λ r. ⌜ Reads (Calls.iter-source w) (holds (now (heap .entry)) (now (slots .entry)) (now (scalars .entry)) (now (list .entry)) (now (directory .entry)) (now (cells .entry))) r (now (answer .exit)) ⌝ }
 {
-    let h = load(heap);
+    let h = record::load(heap);
     let a = collections::iter_source(h, slots, scalars, list, directory, cells, w);
     tell(answer, commands::reading(a))
 }
@@ -2254,7 +2196,7 @@ pub extern "C" fn mch_iter_key_type(
     requires { ⌜ Good (holds (now heap) (now slots) (now scalars) (now list) (now directory) (now cells)) ⌝ }
     ensures { λ r. ⌜ Reads (Calls.iter-key-type w) (holds (now (heap .entry)) (now (slots .entry)) (now (scalars .entry)) (now (list .entry)) (now (directory .entry)) (now (cells .entry))) r (now (answer .exit)) ⌝ }
 {
-    let h = load(heap);
+    let h = record::load(heap);
     let a = collections::iter_key_type(h, slots, scalars, list, directory, cells, w);
     tell(answer, commands::reading(a))
 }
@@ -2274,7 +2216,7 @@ pub extern "C" fn mch_iter_ended(
     requires { ⌜ Good (holds (now heap) (now slots) (now scalars) (now list) (now directory) (now cells)) ⌝ }
     ensures { λ r. ⌜ Reads (Calls.iter-ended w) (holds (now (heap .entry)) (now (slots .entry)) (now (scalars .entry)) (now (list .entry)) (now (directory .entry)) (now (cells .entry))) r (now (answer .exit)) ⌝ }
 {
-    let h = load(heap);
+    let h = record::load(heap);
     let a = collections::iter_ended(h, slots, scalars, list, directory, cells, w);
     tell(answer, commands::test(a))
 }
@@ -2294,7 +2236,7 @@ pub extern "C" fn mch_iter_cursor(
     requires { ⌜ Good (holds (now heap) (now slots) (now scalars) (now list) (now directory) (now cells)) ⌝ }
     ensures { λ r. ⌜ Reads (Calls.iter-cursor w) (holds (now (heap .entry)) (now (slots .entry)) (now (scalars .entry)) (now (list .entry)) (now (directory .entry)) (now (cells .entry))) r (now (answer .exit)) ⌝ }
 {
-    let h = load(heap);
+    let h = record::load(heap);
     let a = collections::iter_cursor(h, slots, scalars, list, directory, cells, w);
     tell(answer, commands::cursor(a))
 }

@@ -35,8 +35,8 @@ use Rattle.collector.specs.declared.Collection.{Collection}
 use Rattle.collector.specs.declared.Collection.the-variants as C
 use Rattle.model.specs.Opening.{Opening}
 use Rattle.model.specs.Replies.{Lent, list}
-use Rattle.heap_bench.specs.Record.{loaded}
-use Rattle.heap_bench.specs.Loops.{Collects, Filled, OpensWords, Ran, Summed, calls, freedWord, openedIn, readWord, total, visitWord, words, wordShown}
+use Rattle.record.specs.Record.{OpensWords, loaded, openedIn}
+use Rattle.heap_bench.specs.Loops.{Collects, Filled, Ran, Summed, calls, freedWord, readWord, total, visitWord, words, wordShown}
 
 -- the words of answers are what is shown
 pub read-word : (a : Reading) → readWord a ≡ wordShown (readingIs a)

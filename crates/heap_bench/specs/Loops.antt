@@ -1,10 +1,7 @@
 -- The calls that each loop makes, and what a loop promises.
 use Prim.Native.Nat.{ℕ, zero, suc, _+_, _%_}
 use mathlib.Core.Path.{_≡_}
-use mathlib.Core.Logic.{_≢_}
-use mathlib.Core.Bool.{cond}
 use mathlib.Core.List.{List, [], _∷_, map}
-use lib.Dec.{eqb}
 use lib.IntN.{ℤ}
 use lib.ListN.{getD, length}
 use Rattle.layout.specs.Layout.{Layout}
@@ -12,24 +9,18 @@ use Rattle.model.specs.Calls as Calls
 use Rattle.model.specs.Calls.{Call}
 use Rattle.model.specs.Demand3.{run}
 use Rattle.model.specs.Model.{Model}
-use Rattle.model.specs.Opening.{Opening}
 use Rattle.model.specs.Replies.{list}
 use Rattle.model.specs.Step.{step}
 use Rattle.history.proofs.Lift.{Seen, seen, seenAll}
 use Rattle.commands.specs.Shows.{shownOf}
 use Rattle.heap.specs.State.{State, modelOf}
 use Rattle.heap.specs.Good.{Good}
-use Rattle.heap.specs.Opens.{Beside, Opens, openedNumber}
-use Rattle.heap.specs.declared.Opened.{Opened}
-use Rattle.heap.specs.declared.Opened.the-variants.{Ready, Refused}
 use Rattle.heap.specs.declared.Reading.{Reading}
 use Rattle.heap.specs.declared.Reading.the-variants as Read
-use Rattle.heap.specs.declared.Refusal.the-variants.{BadOpening}
 use Rattle.collections.specs.declared.Perhaps.{Perhaps}
 use Rattle.collections.specs.declared.Perhaps.the-variants as P
 use Rattle.collector.specs.declared.Collection.{Collection}
 use Rattle.collector.specs.declared.Collection.the-variants as C
-use Rattle.heap_bench.specs.Record.{loaded}
 
 -- call i of each loop; ws, ps, vs, hs, ks: the lent words, positions, values, hashes, keys
 abbrev pub boxReads : List ℕ → ℕ → Call
@@ -124,11 +115,3 @@ pub record Collects (l : Layout) (roots places : List ℕ) (b : State) (r : ℕ)
   pub next : modelOf l a ≡ (step (modelOf l b) (Calls.collect roots places)) .next
   pub good : Good a
 
--- an opening that returned r and left the record's words
-unfoldable pub openedIn : ℕ → List ℕ → Opened
-openedIn r words = cond (eqb r 0) (Ready (loaded words)) (Refused BadOpening)
-
-pub record OpensWords (o : Opening) (t : State) (x : Beside) (before : List ℕ) (r : ℕ) (after : List ℕ) (y : Beside) : Type 0 where
-  pub opens : Opens o t x (openedIn r after) y
-  pub returned : r ≡ openedNumber (openedIn r after)
-  pub kept : r ≢ 0 → after ≡ before

@@ -1,5 +1,4 @@
 // The calls in loops, for bench/run: a Rust or C caller keeps the heap's record in eighteen words between the loops.
-use account::Account;
 use collections::Perhaps;
 use collector::Collection;
 use heap::Heap;
@@ -13,67 +12,8 @@ ghost use Rattle.model.specs.Calls as Calls;
 ghost use Rattle.heap.specs.State.{state};
 ghost use Rattle.heap.specs.Good.{Good, Rested};
 ghost use Rattle.heap.specs.Opens.{beside, newHeap, openingOf};
-ghost use Rattle.heap_bench.specs.Record.{loaded, weightsIn};
-ghost use Rattle.heap_bench.specs.Loops.{Collects, Filled, OpensWords, Ran, Summed, arrays, boxReads, boxStores, boxes, finds, freedWord, itemReads, itemStores, iterators, maps, pops, pushes, puts, readWord, removals, steps, visitWord};
-
-// The record that eighteen words hold.
-fn load(words: &[u64; 18]) -> Heap
-    ensures { λ r. ⌜ r ≡ loaded (now (words .entry)) ⌝ }
-{
-    let account = Account {
-        used: words[0],
-        since: words[1],
-        threshold: words[2],
-        limit: words[3],
-    };
-    let weights = Weights {
-        slot: words[4],
-        entry: words[5],
-        iterator: words[6],
-        coroutine: words[7],
-        frame: words[8],
-    };
-    Heap {
-        account,
-        weights,
-        size: words[9],
-        fresh: words[10],
-        free: words[11],
-        top: words[12],
-        entries: words[13],
-        taken: words[14],
-        present: words[15],
-        collections: words[16],
-        freed: words[17],
-    }
-}
-
-fn save(words: &mut [u64; 18], heap: Heap)
-    ensures { λ _. ⌜ loaded (now (words .exit)) ≡ heap ⌝ }
-{
-    let account = heap.account;
-    let weights = heap.weights;
-    *words = [
-        account.used,
-        account.since,
-        account.threshold,
-        account.limit,
-        weights.slot,
-        weights.entry,
-        weights.iterator,
-        weights.coroutine,
-        weights.frame,
-        heap.size,
-        heap.fresh,
-        heap.free,
-        heap.top,
-        heap.entries,
-        heap.taken,
-        heap.present,
-        heap.collections,
-        heap.freed,
-    ];
-}
+ghost use Rattle.record.specs.Record.{OpensWords, loaded, weightsIn};
+ghost use Rattle.heap_bench.specs.Loops.{Collects, Filled, Ran, Summed, arrays, boxReads, boxStores, boxes, finds, freedWord, itemReads, itemStores, iterators, maps, pops, pushes, puts, readWord, removals, steps, visitWord};
 
 // The word read or made; 0 for a refusal.
 fn word(a: Reading) -> u64
@@ -120,7 +60,7 @@ pub extern "C" fn heap_bench_read_box(
     requires { ⌜ Good (state (loaded (now heap)) (now slots) (now scalars) (now list) (now directory) (now cells)) ⌝ }
     ensures { λ r. ⌜ Summed (boxReads (now (words .entry))) (length (now (words .entry))) (state (loaded (now (heap .entry))) (now (slots .entry)) (now (scalars .entry)) (now (list .entry)) (now (directory .entry)) (now (cells .entry))) r ⌝ }
 {
-    let h = load(heap);
+    let h = record::load(heap);
     let mut i: usize = 0;
     let mut sum: u64 = 0;
     while i < words.len() {
@@ -148,7 +88,7 @@ pub extern "C" fn heap_bench_store_box(
     requires { ⌜ length (now values) ≡ length (now words) ⌝ }
     ensures { λ _. ⌜ Ran (boxStores (now (words .entry)) (now (values .entry))) (length (now (words .entry))) (state (loaded (now (heap .entry))) (now (slots .entry)) (now (scalars .entry)) (now (list .entry)) (now (directory .entry)) (now (cells .entry))) (state (loaded (now (heap .entry))) (now (slots .exit)) (now (scalars .entry)) (now (list .entry)) (now (directory .entry)) (now (cells .entry))) ⌝ }
 {
-    let h = load(heap);
+    let h = record::load(heap);
     let mut i: usize = 0;
     while i < words.len() {
         let w = words[i];
@@ -174,7 +114,7 @@ pub extern "C" fn heap_bench_read_item(
     requires { ⌜ length (now positions) ≡ length (now words) ⌝ }
     ensures { λ r. ⌜ Summed (itemReads (now (words .entry)) (now (positions .entry))) (length (now (words .entry))) (state (loaded (now (heap .entry))) (now (slots .entry)) (now (scalars .entry)) (now (list .entry)) (now (directory .entry)) (now (cells .entry))) r ⌝ }
 {
-    let h = load(heap);
+    let h = record::load(heap);
     let mut i: usize = 0;
     let mut sum: u64 = 0;
     while i < words.len() {
@@ -204,7 +144,7 @@ pub extern "C" fn heap_bench_store_item(
     requires { ⌜ length (now positions) ≡ length (now words) ⌝ }
     ensures { λ _. ⌜ Ran (itemStores (now (words .entry)) (now (positions .entry)) v) (length (now (words .entry))) (state (loaded (now (heap .entry))) (now (slots .entry)) (now (scalars .entry)) (now (list .entry)) (now (directory .entry)) (now (cells .entry))) (state (loaded (now (heap .entry))) (now (slots .entry)) (now (scalars .entry)) (now (list .entry)) (now (directory .entry)) (now (cells .exit))) ⌝ }
 {
-    let h = load(heap);
+    let h = record::load(heap);
     let mut i: usize = 0;
     while i < words.len() {
         let w = words[i];
@@ -230,7 +170,7 @@ pub extern "C" fn heap_bench_new_box(
     ensures { λ _. ⌜ Ran (boxes w) (length (now (out .entry))) (state (loaded (now (heap .entry))) (now (slots .entry)) (now (scalars .entry)) (now (list .entry)) (now (directory .entry)) (now (cells .entry))) (state (loaded (now (heap .exit))) (now (slots .exit)) (now (scalars .entry)) (now (list .entry)) (now (directory .entry)) (now (cells .entry))) ⌝ }
     ensures { λ _. ⌜ Filled (boxes w) (state (loaded (now (heap .entry))) (now (slots .entry)) (now (scalars .entry)) (now (list .entry)) (now (directory .entry)) (now (cells .entry))) (now (out .exit)) ⌝ }
 {
-    let mut h = load(heap);
+    let mut h = record::load(heap);
     let mut i: usize = 0;
     while i < out.len() {
         let r = allocation::new_box(h, slots, scalars, list, directory, cells, w);
@@ -239,7 +179,7 @@ pub extern "C" fn heap_bench_new_box(
         h = r.heap;
         i += 1;
     }
-    save(heap, h);
+    record::save(heap, h);
 }
 
 // Arrays of so many items, one for each place.
@@ -259,7 +199,7 @@ pub extern "C" fn heap_bench_new_array(
     ensures { λ _. ⌜ Ran (arrays t size) (length (now (out .entry))) (state (loaded (now (heap .entry))) (now (slots .entry)) (now (scalars .entry)) (now (list .entry)) (now (directory .entry)) (now (cells .entry))) (state (loaded (now (heap .exit))) (now (slots .exit)) (now (scalars .entry)) (now (list .entry)) (now (directory .exit)) (now (cells .exit))) ⌝ }
     ensures { λ _. ⌜ Filled (arrays t size) (state (loaded (now (heap .entry))) (now (slots .entry)) (now (scalars .entry)) (now (list .entry)) (now (directory .entry)) (now (cells .entry))) (now (out .exit)) ⌝ }
 {
-    let mut h = load(heap);
+    let mut h = record::load(heap);
     let mut i: usize = 0;
     while i < out.len() {
         let r = allocation::new_array(h, slots, scalars, list, directory, cells, t, size);
@@ -268,7 +208,7 @@ pub extern "C" fn heap_bench_new_array(
         h = r.heap;
         i += 1;
     }
-    save(heap, h);
+    record::save(heap, h);
 }
 
 // Maps of plain words, one for each place.
@@ -286,7 +226,7 @@ pub extern "C" fn heap_bench_new_map(
     ensures { λ _. ⌜ Ran (maps) (length (now (out .entry))) (state (loaded (now (heap .entry))) (now (slots .entry)) (now (scalars .entry)) (now (list .entry)) (now (directory .entry)) (now (cells .entry))) (state (loaded (now (heap .exit))) (now (slots .exit)) (now (scalars .exit)) (now (list .entry)) (now (directory .entry)) (now (cells .entry))) ⌝ }
     ensures { λ _. ⌜ Filled (maps) (state (loaded (now (heap .entry))) (now (slots .entry)) (now (scalars .entry)) (now (list .entry)) (now (directory .entry)) (now (cells .entry))) (now (out .exit)) ⌝ }
 {
-    let mut h = load(heap);
+    let mut h = record::load(heap);
     let mut i: usize = 0;
     while i < out.len() {
         let r = collections::new_map(h, slots, scalars, list, directory, cells, 0, 0);
@@ -295,7 +235,7 @@ pub extern "C" fn heap_bench_new_map(
         h = r.heap;
         i += 1;
     }
-    save(heap, h);
+    record::save(heap, h);
 }
 
 // Iterators over one source, one for each place.
@@ -314,7 +254,7 @@ pub extern "C" fn heap_bench_new_iter(
     ensures { λ _. ⌜ Ran (iterators source) (length (now (out .entry))) (state (loaded (now (heap .entry))) (now (slots .entry)) (now (scalars .entry)) (now (list .entry)) (now (directory .entry)) (now (cells .entry))) (state (loaded (now (heap .exit))) (now (slots .exit)) (now (scalars .exit)) (now (list .entry)) (now (directory .entry)) (now (cells .entry))) ⌝ }
     ensures { λ _. ⌜ Filled (iterators source) (state (loaded (now (heap .entry))) (now (slots .entry)) (now (scalars .entry)) (now (list .entry)) (now (directory .entry)) (now (cells .entry))) (now (out .exit)) ⌝ }
 {
-    let mut h = load(heap);
+    let mut h = record::load(heap);
     let mut i: usize = 0;
     while i < out.len() {
         let r = collections::new_iter(h, slots, scalars, list, directory, cells, source);
@@ -323,7 +263,7 @@ pub extern "C" fn heap_bench_new_iter(
         h = r.heap;
         i += 1;
     }
-    save(heap, h);
+    record::save(heap, h);
 }
 
 // The values behind an array's last item.
@@ -341,7 +281,7 @@ pub extern "C" fn heap_bench_push(
     requires { ⌜ Good (state (loaded (now heap)) (now slots) (now scalars) (now list) (now directory) (now cells)) ⌝ }
     ensures { λ _. ⌜ Ran (pushes w (now (values .entry))) (length (now (values .entry))) (state (loaded (now (heap .entry))) (now (slots .entry)) (now (scalars .entry)) (now (list .entry)) (now (directory .entry)) (now (cells .entry))) (state (loaded (now (heap .exit))) (now (slots .exit)) (now (scalars .entry)) (now (list .entry)) (now (directory .exit)) (now (cells .exit))) ⌝ }
 {
-    let mut h = load(heap);
+    let mut h = record::load(heap);
     let mut i: usize = 0;
     while i < values.len() {
         let v = values[i];
@@ -349,7 +289,7 @@ pub extern "C" fn heap_bench_push(
         h = r.heap;
         i += 1;
     }
-    save(heap, h);
+    record::save(heap, h);
 }
 
 // An array's last items, n of them: their sum, modulo 2^64.
@@ -368,7 +308,7 @@ pub extern "C" fn heap_bench_pop(
     ensures { λ _. ⌜ Ran (pops w) n (state (loaded (now (heap .entry))) (now (slots .entry)) (now (scalars .entry)) (now (list .entry)) (now (directory .entry)) (now (cells .entry))) (state (loaded (now (heap .entry))) (now (slots .exit)) (now (scalars .entry)) (now (list .entry)) (now (directory .entry)) (now (cells .entry))) ⌝ }
     ensures { λ r. ⌜ Summed (pops w) n (state (loaded (now (heap .entry))) (now (slots .entry)) (now (scalars .entry)) (now (list .entry)) (now (directory .entry)) (now (cells .entry))) r ⌝ }
 {
-    let h = load(heap);
+    let h = record::load(heap);
     let mut i: usize = 0;
     let mut sum: u64 = 0;
     while i < n {
@@ -396,7 +336,7 @@ pub extern "C" fn heap_bench_put(
     requires { ⌜ length (now hashes) ≡ length (now keys) ⌝ }
     ensures { λ _. ⌜ Ran (puts w (now (hashes .entry)) (now (keys .entry))) (length (now (keys .entry))) (state (loaded (now (heap .entry))) (now (slots .entry)) (now (scalars .entry)) (now (list .entry)) (now (directory .entry)) (now (cells .entry))) (state (loaded (now (heap .exit))) (now (slots .exit)) (now (scalars .exit)) (now (list .entry)) (now (directory .exit)) (now (cells .exit))) ⌝ }
 {
-    let mut h = load(heap);
+    let mut h = record::load(heap);
     let mut i: usize = 0;
     while i < keys.len() {
         let hash = hashes[i];
@@ -405,7 +345,7 @@ pub extern "C" fn heap_bench_put(
         h = r.heap;
         i += 1;
     }
-    save(heap, h);
+    record::save(heap, h);
 }
 
 // Keys of a map: the sum of their positions, modulo 2^64.
@@ -425,7 +365,7 @@ pub extern "C" fn heap_bench_find(
     requires { ⌜ length (now hashes) ≡ length (now keys) ⌝ }
     ensures { λ r. ⌜ Summed (finds w (now (hashes .entry)) (now (keys .entry))) (length (now (keys .entry))) (state (loaded (now (heap .entry))) (now (slots .entry)) (now (scalars .entry)) (now (list .entry)) (now (directory .entry)) (now (cells .entry))) r ⌝ }
 {
-    let h = load(heap);
+    let h = record::load(heap);
     let mut i: usize = 0;
     let mut sum: u64 = 0;
     while i < keys.len() {
@@ -455,7 +395,7 @@ pub extern "C" fn heap_bench_remove(
     requires { ⌜ length (now hashes) ≡ length (now keys) ⌝ }
     ensures { λ _. ⌜ Ran (removals w (now (hashes .entry)) (now (keys .entry))) (length (now (keys .entry))) (state (loaded (now (heap .entry))) (now (slots .entry)) (now (scalars .entry)) (now (list .entry)) (now (directory .entry)) (now (cells .entry))) (state (loaded (now (heap .exit))) (now (slots .exit)) (now (scalars .exit)) (now (list .entry)) (now (directory .exit)) (now (cells .exit))) ⌝ }
 {
-    let mut h = load(heap);
+    let mut h = record::load(heap);
     let mut i: usize = 0;
     while i < keys.len() {
         let hash = hashes[i];
@@ -464,7 +404,7 @@ pub extern "C" fn heap_bench_remove(
         h = r.heap;
         i += 1;
     }
-    save(heap, h);
+    record::save(heap, h);
 }
 
 // An iterator's next items, n of them: their sum, modulo 2^64.
@@ -483,7 +423,7 @@ pub extern "C" fn heap_bench_iter_next(
     ensures { λ _. ⌜ Ran (steps w) n (state (loaded (now (heap .entry))) (now (slots .entry)) (now (scalars .entry)) (now (list .entry)) (now (directory .entry)) (now (cells .entry))) (state (loaded (now (heap .entry))) (now (slots .entry)) (now (scalars .exit)) (now (list .entry)) (now (directory .entry)) (now (cells .entry))) ⌝ }
     ensures { λ r. ⌜ Summed (steps w) n (state (loaded (now (heap .entry))) (now (slots .entry)) (now (scalars .entry)) (now (list .entry)) (now (directory .entry)) (now (cells .entry))) r ⌝ }
 {
-    let h = load(heap);
+    let h = record::load(heap);
     let mut i: usize = 0;
     let mut sum: u64 = 0;
     while i < n {
@@ -517,7 +457,7 @@ pub extern "C" fn heap_bench_collect(
     ensures { λ _. ⌜ now (marks .exit) ≡ now (marks .entry) ⌝ }
     ensures { λ _. ⌜ now (order .exit) ≡ now (order .entry) ⌝ }
 {
-    let h = load(heap);
+    let h = record::load(heap);
     let r = collector::collect(
         h,
         slots,
@@ -533,7 +473,7 @@ pub extern "C" fn heap_bench_collect(
         places,
     );
     let after = r.heap;
-    save(heap, after);
+    record::save(heap, after);
     let answer = r.answer;
     freed(answer)
 }
@@ -580,7 +520,7 @@ pub extern "C" fn heap_bench_open(
     );
     match opened {
         Opened::Ready(h) => {
-            save(heap, h);
+            record::save(heap, h);
             0
         }
         Opened::Refused(q) => 10,
