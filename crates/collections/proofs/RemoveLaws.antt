@@ -1,8 +1,9 @@
 -- The calls that remove an entry: 7, or the removal. Assumes nothing.
-use Prim.Native.Nat.{ℕ, _-_, _<_}
+use Prim.Native.Nat.{ℕ, _+_, _-_, _≤_, _<_}
 use mathlib.Core.Path.{_≡_, refl, ap, sym, _∙_}
+use mathlib.Core.Bool.{Bool, true}
 use mathlib.Core.List.{List, []}
-use mathlib.Core.Option.{Option, none}
+use mathlib.Core.Option.{Option, none, some}
 use native.Mathlib.Omega.{arith}
 use lib.ListN.{length}
 use Rattle.slots.specs.Header.{headerAt}
@@ -13,6 +14,7 @@ use Rattle.history.proofs.Lift.{Seen}
 use Rattle.layout.specs.Layout.{Layout, isTraced}
 use Rattle.map_store.specs.Store as Maps
 use Rattle.map_store.specs.View.{position, storeOf}
+use Rattle.map_store.specs.View as View
 use Rattle.map_store.specs.declared.Found.{Found}
 use Rattle.map_store.specs.declared.Found.the-variants as F
 use Rattle.map_store.specs.declared.MapStore.{MapStore}
@@ -40,11 +42,12 @@ use Rattle.heap.proofs.ReachLaws.{located-at}
 use Rattle.heap.proofs.ReadLaws.{object-passes, object-refused}
 use Rattle.heap.proofs.StoreLaws.{Stored, added-change, does-stored-free}
 use Rattle.heap.proofs.TouchLaws.{touched-none}
-use Rattle.collections.specs.Changes.{InRegion, RemoveRow, Removes, roomWithout}
+use Rattle.collections.specs.Changes.{InRegion, RemoveRow, Removes, RemovingKey, roomWithout, roomWithoutKey}
 use Rattle.collections.specs.Growth.{Lengthened, Lengthening}
 use Rattle.collections.specs.Words.{MapWritten}
-use Rattle.collections.proofs.ChangeLaws.{long-store, map-stored}
-use Rattle.collections.proofs.MapLaws.{MapHere, MapSlot, Sought, slot-here}
+use Rattle.collections.proofs.ChangeLaws.{long-store, map-stored, slot-lengthens}
+use Rattle.collections.proofs.GrowthLaws.{stays-same}
+use Rattle.collections.proofs.MapLaws.{MapHere, MapSlot, Sought, here-good, here-slot, map-size, slot-here}
 use Rattle.collections.proofs.MapStoreLaws.{here-content, here-roomy}
 
 -- ---- every removal
@@ -152,3 +155,49 @@ module _ {t : State} {w i : ℕ} {h : Header} {x : Scalars} {s : MapStore} {c : 
   unfolding terms effect uncharged
   remove-absent e l =
       does-stored-free l (m .good) (m .target .reached) (absent-stored e) (Calls.remove w hash key) refl refl refl (object-passes l (m .good) (Calls.remove w hash key) (m .target) says-map refl) refl refl
+
+-- ---- by key in a hashed map, which keeps its room
+
+room-found : (o : Option ℕ) (z : Maps.Store) (r : Maps.Room) → if-found o (Maps.roomAfterRemove z r) r ≡ Maps.roomAfterFound o z r
+unfolding if-found Maps.roomAfterFound
+room-found none z r = refl
+room-found (some p) z r = refl
+
+kept-found : (o : Option ℕ) (z : Maps.Store) (r : Maps.Room) → z .hashed ≡ true → Maps.roomAfterFound o z r ≡ r
+unfolding Maps.roomAfterFound Maps.roomAfterRemove
+kept-found none z r e = refl
+kept-found (some p) z r e = rw e
+
+module _ {t : State} {w i : ℕ} {h : Header} {x : Scalars} {s : MapStore} {c : List ℕ} (m : MapHere t w i h x s c) {b : Bool} (eb : b ≡ isTraced (x .a)) where
+  key-content : (hash key : ℕ) → on-map (λ z. Maps.removedKey z hash key) (contentOf (rawOf t i) (moreOf t i)) ≡ map-object record { keyType = x .a; valueType = x .b; store = Maps.removedKey b hash key (storeOf s c) }
+  unfolding on-map
+  key-content hash key = rw (here-content m, ← eb)
+
+  key-room : (hash key : ℕ) → map-room (remove-room hash key) (contentOf (rawOf t i) (moreOf t i)) (roomOf (rawOf t i)) ≡ roomWithoutKey b hash key s c
+  unfolding map-room remove-room
+  key-room hash key = rw (here-content m, here-roomy m, ← eb) (room-found (Maps.find b hash key (storeOf s c)) (storeOf s c) (View.roomOf s))
+
+  key-removed : {hash key size : ℕ} {r : Heap} {s′ dir′ c′ : List ℕ} {N : MapStore} {s″ x″ c″ : List ℕ} (y : Lengthening t i size) (u : Lengthened t i size (t .heap .account) r s′ dir′ c′) → {h′ : Header} → h′ ≡ headerAt s′ i →
+      InRegion (Maps.removedKey b hash key) (roomWithoutKey b hash key s (regionOf h′ c′)) h′ s c′ N c″ → MapWritten s′ (t .scalars) s″ x″ i N → size ≡ Maps.cellsOf (roomWithoutKey b hash key s c) →
+      Performs (Calls.remove w hash key) t (answered nothing) (state r s″ x″ (t .list) dir′ c″)
+  unfolding terms effect uncharged
+  key-removed {hash} {key} {size} {r} {s′} {dir′} {c′} {N} {s″} {x″} {c″} y u e v p z l =
+      let v₁ : InRegion (Maps.removedKey b hash key) (roomWithoutKey b hash key s (regionOf (headerAt s′ i) c′)) (headerAt s′ i) s c′ N c″ = rw e at v in
+      let v₂ : InRegion (Maps.removedKey b hash key) (roomWithoutKey b hash key s c) (headerAt s′ i) s c′ N c″ = rw (long-store (here-slot m) y u) at v₁ in
+      rw (u .heap)
+      (does-stored-free l (m .good) (m .target .reached) (map-stored (here-slot m) y u v₂ p z (key-content hash key) (key-room hash key)) (Calls.remove w hash key) refl refl refl
+      (object-passes l (m .good) (Calls.remove w hash key) (m .target) says-map refl) refl refl)
+
+  kept-size : (hash key : ℕ) → s .hashed ≡ true → h .size ≡ Maps.cellsOf (roomWithoutKey b hash key s c)
+  kept-size hash key f = rw (kept-found (Maps.find b hash key (storeOf s c)) (storeOf s c) (View.roomOf s) f) (omega (arith, map-size (here-slot m)))
+
+  pub hashed-asks : {hash key : ℕ} → s .hashed ≡ true → RemovingKey (t .cells) h s b hash key
+  hashed-asks {hash} {key} f =
+      let z : h .size ≡ Maps.cellsOf (roomWithoutKey b hash key s (regionOf h (t .cells))) = rw (← m .cells) (kept-size hash key f) in
+      record { inside = rw (m .header) (m .good .laid .inside i (m .target .reached .within)); good = rw (← m .cells) (here-good m); room = omega (arith, z) }
+
+  pub hashed-removed : {hash key : ℕ} {N : MapStore} {s″ x″ c″ : List ℕ} → s .hashed ≡ true → InRegion (Maps.removedKey b hash key) (roomWithoutKey b hash key s (regionOf h (t .cells))) h s (t .cells) N c″ → MapWritten (t .slots) (t .scalars) s″ x″ i N →
+      Performs (Calls.remove w hash key) t (answered nothing) (state (t .heap) s″ x″ (t .list) (t .directory) c″)
+  hashed-removed {hash} {key} f v p =
+      let y : Lengthening t i (h .size) = slot-lengthens (here-slot m) (omega arith) (omega arith) in
+      key-removed y (stays-same (m .good) y (m .header) (omega arith)) (m .header) v p (kept-size hash key f)

@@ -36,6 +36,9 @@ roomAfter traced key s c = Maps.roomAfterInsert traced key (storeOf s c) (roomOf
 abbrev pub roomWithout : MapStore → List ℕ → Maps.Room
 roomWithout s c = Maps.roomAfterRemove (storeOf s c) (roomOf s)
 
+abbrev pub roomWithoutKey : Bool → ℕ → ℕ → MapStore → List ℕ → Maps.Room
+roomWithoutKey traced hash key s c = Maps.roomAfterRemoveKey traced hash key (storeOf s c) (roomOf s)
+
 pub record Inserting (c : List ℕ) (h : Header) (s : MapStore) (traced : Bool) (key : ℕ) : Type 0 where
   pub inside : h .start + h .size ≤ length c
   pub good : Map.Good s (regionOf h c)
@@ -46,6 +49,11 @@ pub record Removing (c : List ℕ) (h : Header) (s : MapStore) : Type 0 where
   pub inside : h .start + h .size ≤ length c
   pub good : Map.Good s (regionOf h c)
   pub room : Maps.cellsOf (roomWithout s (regionOf h c)) ≤ h .size
+
+pub record RemovingKey (c : List ℕ) (h : Header) (s : MapStore) (traced : Bool) (hash key : ℕ) : Type 0 where
+  pub inside : h .start + h .size ≤ length c
+  pub good : Map.Good s (regionOf h c)
+  pub room : Maps.cellsOf (roomWithoutKey traced hash key s (regionOf h c)) ≤ h .size
 
 -- the rule was applied in the cells of h alone
 pub record InRegion (rule : Maps.Store → Maps.Store) (room : Maps.Room) (h : Header) (s : MapStore) (c : List ℕ) (r : MapStore) (c′ : List ℕ) : Type 0 where

@@ -18,7 +18,7 @@ ghost use Rattle.heap.proofs.StepLaws.{OwnCells};
 ghost use Rattle.collections.specs.Answers.{perhapsIs, entrySeen, nextSeen, notedSeen, cursorSeen, lentSeen, stepSeen};
 ghost use Rattle.collections.specs.Words.{WordOf, mapFrom, MapWritten, flagOf, ItemIs, ZeroCharge};
 ghost use Rattle.collections.specs.Growth.{Lengthening, Lengthened, pushSize, pushBytes, Appending, Appended};
-ghost use Rattle.collections.specs.Changes.{Inserting, Removing, InRegion, IsMap, Inserts, Removes, roomAfter, roomWithout};
+ghost use Rattle.collections.specs.Changes.{Inserting, Removing, RemovingKey, InRegion, IsMap, Inserts, Removes, roomAfter, roomWithout, roomWithoutKey};
 ghost use Rattle.collections.specs.Beginning.{Begins};
 ghost use Rattle.collections.specs.Visits.{ArrayKnown, MapKnown, Ends, Moves, VisitsArray, VisitsMap, Visits};
 use account::Account;
@@ -408,6 +408,23 @@ fn remove_in(cells: &mut [u64], h: Header, s: MapStore, pos: usize) -> MapStore
     let from = h.start as usize;
     let to = from + h.size as usize;
     map_store::remove(s, &mut cells[from..to], pos)
+}
+
+// The entry of a key removed in the map's cells, where there is room for the index.
+fn remove_key_in(
+    cells: &mut [u64],
+    h: Header,
+    s: MapStore,
+    traced: bool,
+    hash: u64,
+    key: u64,
+) -> MapStore
+    requires { ⌜ RemovingKey (now cells) h s traced hash key ⌝ }
+    ensures { λ r. ⌜ InRegion (Maps.removedKey traced hash key) (roomWithoutKey traced hash key s (regionOf h (now (cells .entry)))) h s (now (cells .entry)) r (now (cells .exit)) ⌝ }
+{
+    let from = h.start as usize;
+    let to = from + h.size as usize;
+    map_store::remove_key(s, &mut cells[from..to], traced, hash, key)
 }
 
 // An entry added to the map in slot i, whatever is there: 9, 5, 7.
@@ -1420,7 +1437,7 @@ pub fn remove_at(
     }
 }
 
-// The entry of a key removed; an absent key's removal changes nothing.
+// The entry of a key removed; an absent key's removal changes nothing, and a hashed map's takes no cells.
 pub fn remove(
     heap: Heap,
     slots: &mut [u64],
@@ -1443,7 +1460,17 @@ pub fn remove(
         Located::At(i) => {
             let h = slots::read_header(slots, i);
             let x = slots::read_scalars(scalars, i);
-            match map_store::find(map_of(h, x), region(cells, h), traced(x.a), hash, key) {
+            let s = map_of(h, x);
+            let t = traced(x.a);
+            if s.hashed {
+                let n = remove_key_in(cells, h, s, t, hash, key);
+                write_map(slots, scalars, i, n);
+                return Settled {
+                    heap,
+                    done: Done::Accepted,
+                };
+            }
+            match map_store::find(s, region(cells, h), t, hash, key) {
                 map_store::Found::Nothing => Settled {
                     heap,
                     done: Done::Accepted,
