@@ -139,7 +139,7 @@ laid-swept {n} {top} {entries} {s} {dir} {c} m s′ g e d = record {
 }
   where
     inside : (j : ℕ) → j < n → (b : Bool) → freedAt m s j ≡ b → headerAt s′ j .start + headerAt s′ j .size ≤ length c
-    inside j l true q = rw (d j l ∙ swept-freed m s j q) (omega arith)
+    inside j l true q = rw (d j l ∙ swept-freed m s j q) (omega (arith, g .inside j l))
     inside j l false q = rw (d j l ∙ swept-kept m s j q) (g .inside j l)
 
     here : (j : ℕ) → j < n → (headerAt s′ j .size ≡ 0 → ⊥) → headerAt s′ j ≡ headerAt s j

@@ -33,13 +33,13 @@ module _ (s x l m : List ℕ) (i : ℕ) (w : Weights) (t : Tally) {h : Header} (
         e₂ p r = λ j. keptTally t (p j) (r j)
 
     module _ (z : getD m i 0 ≡ 0) where
-      pub look-retires : h .half % 32768 ≡ 32767 → {r : Header} {s′ : List ℕ} → r ≡ emptyHeader (h .half % 32768) → s′ ≡ setHeader s i r → Looked s x l m i w t s′ l (retiredTally t)
+      pub look-retires : h .half % 32768 ≡ 32767 → {r : Header} {s′ : List ℕ} → r ≡ emptyHeader h (h .half % 32768) → s′ ≡ setHeader s i r → Looked s x l m i w t s′ l (retiredTally t)
       look-retires g {r} e p =
-          let f : emptyHeader (h .half % 32768) ≡ freedHeader h = ap emptyHeader (sym (ap (λ b. cond b (h .half % 32768) (suc (h .half % 32768))) (eq-eqb (h .half % 32768) 32767 g))) in
+          let f : emptyHeader h (h .half % 32768) ≡ freedHeader h = ap (emptyHeader h) (sym (ap (λ b. cond b (h .half % 32768) (suc (h .half % 32768))) (eq-eqb (h .half % 32768) 32767 g))) in
           retires held z (ap (λ (y : Header). y .half % 32768) (sym q) ∙ g) (p ∙ ap (setHeader s i) (e ∙ f ∙ ap freedHeader q)) refl refl
 
-      pub look-returns : (h .half % 32768 ≡ 32767 → ⊥) → {r : Header} {s′ : List ℕ} → r ≡ emptyHeader (h .half % 32768 + 1) → s′ ≡ setHeader s i r → Looked s x l m i w t s′ (set l (t .free) i) (returnedTally t)
+      pub look-returns : (h .half % 32768 ≡ 32767 → ⊥) → {r : Header} {s′ : List ℕ} → r ≡ emptyHeader h (h .half % 32768 + 1) → s′ ≡ setHeader s i r → Looked s x l m i w t s′ (set l (t .free) i) (returnedTally t)
       look-returns g {r} e p =
-          let f : emptyHeader (h .half % 32768 + 1) ≡ freedHeader h =
-          ap emptyHeader (add-one (h .half % 32768) ∙ sym (ap (λ b. cond b (h .half % 32768) (suc (h .half % 32768))) (ne-eqb (h .half % 32768) 32767 g))) in
+          let f : emptyHeader h (h .half % 32768 + 1) ≡ freedHeader h =
+          ap (emptyHeader h) (add-one (h .half % 32768) ∙ sym (ap (λ b. cond b (h .half % 32768) (suc (h .half % 32768))) (ne-eqb (h .half % 32768) 32767 g))) in
           returns held z (λ y. g (ap (λ (y : Header). y .half % 32768) q ∙ y)) (p ∙ ap (setHeader s i) (e ∙ f ∙ ap freedHeader q)) refl refl

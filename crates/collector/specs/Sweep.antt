@@ -52,12 +52,12 @@ pub record Weighable (h : Header) (f : ℕ) : Type 0 where
 abbrev pub nextGeneration : ℕ → ℕ
 nextGeneration g = cond (eqb g 32767) g (suc g)
 
--- a slot without an object: the tag is the generation of its next one
-abbrev pub emptyHeader : ℕ → Header
-emptyHeader g = record { half = 65536 + g; kind = 0; value = 0; mode = 0; len = 0; size = 0; start = 0; entry = 0 }
+-- a slot without an object: the tag is the generation of its next one; the words that mean nothing then stay
+abbrev pub emptyHeader : Header → ℕ → Header
+emptyHeader h g = record { half = 65536 + g; kind = 0; value = h .value; mode = h .mode; len = h .len; size = 0; start = h .start; entry = h .entry }
 
 abbrev pub freedHeader : Header → Header
-freedHeader h = emptyHeader (nextGeneration (h .half % 32768))
+freedHeader h = emptyHeader h (nextGeneration (h .half % 32768))
 
 -- the object in slot j is not marked
 unfoldable pub freedAt : List ℕ → List ℕ → ℕ → Bool

@@ -58,20 +58,21 @@ fn weigh(h: Header, scalars: &[u64], i: usize, w: Weights) -> u64
     }
 }
 
-// The header of a slot without an object, whose next one has this generation.
-fn empty(generation: u64) -> Header
+// The header of a slot without an object, whose next one has this generation. The other words stay,
+// so that they need not be stored.
+fn empty(h: Header, generation: u64) -> Header
     requires { ⌜ generation ≤ 32768 ⌝ }
-    ensures { λ r. ⌜ r ≡ emptyHeader generation ⌝ }
+    ensures { λ r. ⌜ r ≡ emptyHeader h generation ⌝ }
 {
     Header {
         half: 65536 + generation,
         kind: 0,
-        value: 0,
-        mode: 0,
-        len: 0,
+        value: h.value,
+        mode: h.mode,
+        len: h.len,
         size: 0,
-        start: 0,
-        entry: 0,
+        start: h.start,
+        entry: h.entry,
     }
 }
 
@@ -105,7 +106,7 @@ fn sweep_slot(
     }
     let generation = h.half % 32768;
     if generation == 32767 {
-        slots::write_header(slots, i, empty(generation));
+        slots::write_header(slots, i, empty(h, generation));
         return Tally {
             free: t.free,
             freed: t.freed + 1,
@@ -114,7 +115,7 @@ fn sweep_slot(
             present: t.present,
         };
     }
-    slots::write_header(slots, i, empty(generation + 1));
+    slots::write_header(slots, i, empty(h, generation + 1));
     let top = t.free as usize;
     list[top] = i as u64;
     Tally {
