@@ -1,6 +1,6 @@
 -- A command's call over the first cells, and its line. Assumes nothing.
 use Prim.Native.Nat.{ℕ, _+_, _-_, _*_, _≤_, _<_}
-use mathlib.Core.Path.{_≡_, refl, sym, ap, _∙_}
+use mathlib.Core.Path.{_≡_, refl, sym, ap, subst, _∙_}
 use mathlib.Core.List.{List, [], _∷_, _++_}
 use native.Mathlib.Omega.{arith}
 use native.Mathlib.Numerals.{add-one}
@@ -36,8 +36,9 @@ use Rattle.commands.specs.Shows.{shownOf}
 use Rattle.replaying.specs.Lines.{lineText}
 use Rattle.history.proofs.Facts.{eqb-no, eqb-yes, leb-no, leb-yes}
 use Rattle.slots.proofs.Cases.{by-cases, same-or-not}
-use Rattle.replaying.specs.Turns.{CallLine, EndLine, Filled, RootLine, Sits, adjusted, callCode, filled, importWord, layoutIn, movedTo, openCells, openKind, openSlots, openedText, openingIn, heapIn, performedText, seated, shownBytes}
+use Rattle.replaying.specs.Turns.{CallLine, EndLine, Filled, Goes, RootLine, Sits, adjusted, callCode, filled, importWord, layoutIn, movedTo, openCells, openKind, openSlots, openedText, openingIn, heapIn, performedText, seated, shownBytes}
 use Rattle.replaying.specs.declared.Session.{Session}
+use Rattle.replaying.specs.declared.Started.the-variants as Start
 
 -- the cells lent are the first
 pub front-performed : {l : Layout} (n : ℕ) {n′ : ℕ} (o : Operands) (words frames : List ℕ) {b : State} {bytes places : List ℕ} {p : Performed} {h : Heap} {s x f d : List ℕ} (cs rest : List ℕ) (room : ℕ) {bytes′ places′ marks order layout table : List ℕ} → length cs ≡ room → n′ ≡ callCode n →
@@ -162,3 +163,26 @@ kept-sits q k e g =
 
 pub cells-few : (slots cells kind n : ℕ) → kind ≡ openKind slots cells → n ≡ openCells kind cells → n ≤ 65536
 cells-few slots cells kind n e z = rw (z, e) (cells-fit slots cells)
+
+pub started-sits : {input s x f d c marks order table : List ℕ} (q p : Session) → Start.Ready q ≡ Start.Ready p → Sits input s x f d c marks order table q → Sits input s x f d c marks order table p
+started-sits q p e g = let z : q ≡ p = cc in rw z at g
+
+-- ---- turns
+
+module _ {input s x f d c marks order table : List ℕ} {p r : Session} {used : ℕ} {out out′ : List ℕ} (g : Sits input s x f d c marks order table p) where
+  pub ended-turn : EndLine p used (length input) out out′ r → (next : ℕ) → next ≤ length input → Sits input s x f d c marks order table r × (Goes next (length input) (r .at) × (r .end ≤ length out′))
+  ended-turn k next h =
+      let e = ap (λ (q : Session). q .at) (k .same) in
+      (subst (λ (q : Session). Sits input s x f d c marks order table q) (sym (k .same)) (moved-sits (p .count) (length input) (r .end) g (g .few) (omega arith)), (record { onward = omega (arith, e); within = omega (arith, e) }, puts-within (k .text)))
+
+  pub ended-later : EndLine p used (length input) out out′ r → p .at < length input → Sits input s x f d c marks order table r × ((p .at < r .at) × (r .end ≤ length out′))
+  ended-later k h = let t = ended-turn k (length input) (omega arith) in (t .0, (omega (arith, t .1 .0), t .1 .1))
+
+  pub rooted-later : {w next : ℕ} {before after : List ℕ} → RootLine p w next used before out after out′ r → p .at < next → next ≤ length input → Sits input s x f d c marks order table r × ((p .at < r .at) × (r .end ≤ length out′))
+  rooted-later {next = next} k h l =
+      let e = ap (λ (q : Session). q .at) (k .same) in
+      (subst (λ (q : Session). Sits input s x f d c marks order table q) (sym (k .same)) (moved-sits (r .count) next (r .end) g (k .few) l), (omega (arith, e), puts-within (k .text)))
+
+-- every call but 26 is lent its string
+pub lent-string : (n size text : ℕ) {r : ℕ} → r ≡ cond (eqb n 0x26) size text → (n ≡ 0x26 → ⊥) → r ≡ text
+lent-string n size text e k = e ∙ rw (eqb-no n 0x26 k)

@@ -735,3 +735,157 @@ fn open_turn(
         Opened::Ready(h) => opened(h, kind, n, call, input.len(), e),
     }
 }
+
+// The call of a command with its words, and with bytes and places lent to it.
+fn lent_turn(
+    p: Session,
+    slots: &mut [u64],
+    scalars: &mut [u64],
+    list: &mut [u64],
+    directory: &mut [u64],
+    cells: &mut [u64],
+    marks: &mut [u8],
+    order: &mut [u32],
+    table: &[u64],
+    input: &[u8],
+    code: u64,
+    call: Call,
+    words: &[u64],
+    bytes: &mut [u8],
+    places: &mut [u64],
+    used: u64,
+    out: &mut [u8],
+) -> Session
+    requires { ⌜ Sits (now input) (now slots) (now scalars) (now list) (now directory) (now cells) (now marks) (now order) (now table) p ⌝ }
+    requires { ⌜ (call .from ≤ call .to) × (call .to ≤ length (now input)) × (call .next ≤ length (now input)) × (call .words + call .frames ≤ length (now words)) ⌝ }
+    requires { ⌜ (length (now places) ≡ 65536) × (524288 ≤ length (now bytes)) × (length (now input) ≤ length (now bytes)) × (1114279 ≤ length (now out)) ⌝ }
+    ensures { λ r. ⌜ Sits (now (input .entry)) (now (slots .exit)) (now (scalars .exit)) (now (list .exit)) (now (directory .exit)) (now (cells .exit)) (now (marks .exit)) (now (order .exit)) (now (table .entry)) r ⌝ }
+    ensures { λ r. ⌜ Goes (call .next) (length (now (input .entry))) (r .at) ⌝ }
+    ensures { λ r. ⌜ r .end ≤ length (now (out .exit)) ⌝ }
+{
+    let o = call.operands;
+    let size = lent_bytes(code, o.b, call.to - call.from);
+    let count = lent_places(code, o.a);
+    if 65536 < count {
+        return ended(p, used, input.len(), out);
+    }
+    let n = count as usize;
+    fill_places(places, n);
+    let w = call.words;
+    let e = w + call.frames;
+    if code == 0x26 {
+        if 524288 < size {
+            return ended(p, used, input.len(), out);
+        }
+        let b = size as usize;
+        fill_bytes(bytes, b);
+        return call_turn(
+            p, slots, scalars, list, directory, cells, marks, order, table, input, code, o,
+            &words[..w], &words[w..e], &mut bytes[..b], &mut places[..n], call.next, out,
+        );
+    }
+    let b = size as usize;
+    copy_bytes(bytes, b, input, call.from);
+    call_turn(
+        p, slots, scalars, list, directory, cells, marks, order, table, input, code, o,
+        &words[..w], &words[w..e], &mut bytes[..b], &mut places[..n], call.next, out,
+    )
+}
+
+// The command at a place, and its line.
+pub fn turn(
+    p: Session,
+    slots: &mut [u64],
+    scalars: &mut [u64],
+    list: &mut [u64],
+    directory: &mut [u64],
+    cells: &mut [u64],
+    marks: &mut [u8],
+    order: &mut [u32],
+    table: &mut [u64],
+    roots: &mut [u64],
+    input: &[u8],
+    words: &mut [u64],
+    bytes: &mut [u8],
+    places: &mut [u64],
+    out: &mut [u8],
+) -> Session
+    requires { ⌜ Sits (now input) (now slots) (now scalars) (now list) (now directory) (now cells) (now marks) (now order) (now table) p ⌝ }
+    requires { ⌜ (p .at < length (now input)) × (length (now input) ≤ 8 * length (now words)) × (64 ≤ length (now roots)) × (65536 ≤ length (now cells)) ⌝ }
+    requires { ⌜ (length (now places) ≡ 65536) × (524288 ≤ length (now bytes)) × (length (now input) ≤ length (now bytes)) × (1114279 ≤ length (now out)) ⌝ }
+    ensures { λ r. ⌜ Sits (now (input .entry)) (now (slots .exit)) (now (scalars .exit)) (now (list .exit)) (now (directory .exit)) (now (cells .exit)) (now (marks .exit)) (now (order .exit)) (now (table .exit)) r ⌝ }
+    ensures { λ r. ⌜ p .at < r .at ⌝ }
+    ensures { λ r. ⌜ r .end ≤ length (now (out .exit)) ⌝ }
+{
+    let at = p.at;
+    let call = script::read_call(input, at, words);
+    let heap = p.heap;
+    let account = heap.account;
+    let used = account.used;
+    if !call.known {
+        return ended(p, used, input.len(), out);
+    }
+    let o = call.operands;
+    let code = input[at] as u64;
+    match code {
+        0x00 => open_turn(
+            p, call, used, slots, scalars, list, directory, cells, marks, order, table, input, out,
+        ),
+        0x0B => root_turn(p, o.a, call.next, used, roots, out),
+        0x0C => {
+            let n = p.count;
+            call_turn(
+                p, slots, scalars, list, directory, cells, marks, order, table, input, code, o,
+                &roots[..n], &words[..0], &mut bytes[..0], places, call.next, out,
+            )
+        }
+        _ => lent_turn(
+            p, slots, scalars, list, directory, cells, marks, order, table, input, code, call,
+            words, bytes, places, used, out,
+        ),
+    }
+}
+
+// Whether the first heap is open: it is callsheet's, with the layout 00 that stands before the script.
+pub enum Started {
+    Ready(Session),
+    Refused,
+}
+
+pub fn start(
+    slots: &[u64],
+    scalars: &[u64],
+    list: &[u64],
+    directory: &[u64],
+    cells: &[u64],
+    marks: &mut [u8],
+    order: &mut [u32],
+    table: &mut [u64],
+    input: &[u8],
+) -> Started
+    requires { ⌜ (2048 ≤ length (now cells)) × (1 ≤ length (now input)) ⌝ }
+    ensures { λ r. ⌜ ((p : Session) → r ≡ Started.Ready p → Sits (now (input .entry)) (now (slots .entry)) (now (scalars .entry)) (now (list .entry)) (now (directory .entry)) (now (cells .entry)) (now (marks .exit)) (now (order .exit)) (now (table .exit)) p) ⌝ }
+{
+    let weights = Weights {
+        slot: 64,
+        entry: 40,
+        iterator: 80,
+        coroutine: 160,
+        frame: 32,
+    };
+    match open_in(
+        256, 1048576, weights, 2048, table, marks, order, slots, scalars, list, directory, cells,
+        input, 0, 1,
+    ) {
+        Opened::Refused(q) => Started::Refused,
+        Opened::Ready(h) => Started::Ready(Session {
+            heap: h,
+            count: 0,
+            room: 2048,
+            from: 0,
+            to: 1,
+            at: 1,
+            end: 0,
+        }),
+    }
+}
