@@ -4,7 +4,7 @@ use mathlib.Core.Path.{_≡_, refl, sym, ap, subst, _∙_}
 use mathlib.Core.List.{List, [], _∷_, _++_}
 use native.Mathlib.Omega.{arith}
 use native.Mathlib.Numerals.{add-one}
-use lib.ListN.{length, set, take, drop, length-set, length-take}
+use lib.ListN.{length, getD, set, take, drop, length-set, length-take}
 use mathlib.Core.Bool.{Bool, true, false, cond, _&&_}
 use lib.Dec.{eqb, leb}
 use borrow.Author.Tests.{leb-true}
@@ -36,8 +36,9 @@ use Rattle.commands.specs.Shows.{shownOf}
 use Rattle.replaying.specs.Lines.{lineText}
 use Rattle.history.proofs.Facts.{eqb-no, eqb-yes, leb-no, leb-yes}
 use Rattle.slots.proofs.Cases.{by-cases, same-or-not}
-use Rattle.replaying.specs.Turns.{CallLine, EndLine, Filled, Goes, RootLine, Sits, adjusted, callCode, filled, importWord, layoutIn, movedTo, openCells, openKind, openSlots, openedText, openingIn, heapIn, performedText, seated, shownBytes}
+use Rattle.replaying.specs.Turns.{CallLine, EndLine, Filled, Goes, RootLine, Sits, adjusted, callCode, filled, importWord, layoutIn, lentBytes, lentPlaces, movedTo, openCells, openKind, openSlots, openedText, openingIn, heapIn, performedText, seated, shownBytes}
 use Rattle.replaying.specs.declared.Session.{Session}
+use Rattle.script.specs.declared.Call.{Call}
 use Rattle.replaying.specs.declared.Started.the-variants as Start
 
 -- the cells lent are the first
@@ -186,3 +187,23 @@ module _ {input s x f d c marks order table : List ℕ} {p r : Session} {used : 
 -- every call but 26 is lent its string
 pub lent-string : (n size text : ℕ) {r : ℕ} → r ≡ cond (eqb n 0x26) size text → (n ≡ 0x26 → ⊥) → r ≡ text
 lent-string n size text e k = e ∙ rw (eqb-no n 0x26 k)
+
+pub lent-named : (n size text : ℕ) {r : ℕ} → r ≡ cond (eqb n 0x26) size text → n ≡ 0x26 → r ≡ size
+lent-named n size text e k = e ∙ rw (eqb-yes n 0x26 k)
+
+-- what is lent stands at the front of the buffers
+module _ (input : List ℕ) (n : ℕ) (k : Call) (size : ℕ) {old new : List ℕ} where
+  pub bytes-filled : n ≡ 0x26 → size ≡ k .operands .b → Filled (λ i. 0xEE) size old new → take size new ≡ lentBytes input n k
+  unfolding lentBytes
+  bytes-filled e z g = g .front ∙ rw (eqb-yes n 0x26 e, z)
+
+  pub bytes-copied : (n ≡ 0x26 → ⊥) → size ≡ k .to - k .from → Filled (λ i. getD input (k .from + i) 0) size old new → take size new ≡ lentBytes input n k
+  unfolding lentBytes
+  bytes-copied e z g = g .front ∙ rw (eqb-no n 0x26 e, z)
+
+  pub places-filled : size ≡ cond (eqb n 0x0F) (k .operands .a) 0 → Filled (λ i. 0xAAAAAAAAAAAA0000 + i) size old new → take size new ≡ lentPlaces n k
+  unfolding lentPlaces
+  places-filled z g = g .front ∙ rw z
+
+pub lent-line : {l : Layout} {n : ℕ} {o : Operands} {words bytes places out bytes′ places′ out′ : List ℕ} {b a : State} {e : ℕ} (rest : List ℕ) (f frames : ℕ) {lent lent′ : List ℕ} → f ≡ frames → bytes ≡ lent → places ≡ lent′ → CallLine l n o words (take f rest) b bytes places out a bytes′ places′ out′ e → CallLine l n o words (take frames rest) b lent lent′ out a bytes′ places′ out′ e
+lent-line rest f frames e g h k = rw (← e, ← g, ← h) k

@@ -1,10 +1,10 @@
 -- A command's call with the memory lent to it, and its line.
 use Prim.Native.Nat.{ℕ, zero, suc, _+_, _-_, _*_, _≤_, _<_}
 use mathlib.Core.Path.{_≡_}
-use mathlib.Core.Bool.{cond, _&&_}
+use mathlib.Core.Bool.{true, false, cond, _&&_}
 use mathlib.Core.List.{List, [], _∷_, _++_}
 use lib.Dec.{eqb, leb}
-use lib.ListN.{length, take, drop}
+use lib.ListN.{length, getD, take, drop}
 use Rattle.layout.specs.Layout.{Layout}
 use Rattle.layout.specs.Sections.{layoutOf}
 use Rattle.history.proofs.Lift.{seen}
@@ -27,6 +27,7 @@ use Rattle.model.specs.declared.Weights.{Weights}
 use Rattle.heap.specs.declared.Heap.{Heap}
 use Rattle.heap.specs.Opens.{Beside, Opens, beside, newHeap, openingOf}
 use Rattle.script.specs.declared.Call.{Call}
+use Rattle.script.specs.Reads.{Reads}
 use Rattle.replaying.specs.declared.Session.{Session}
 use Rattle.replaying.specs.Lines.{lineText, withLast, withSecond}
 
@@ -142,3 +143,58 @@ openingIn input k =
 
 unfoldable pub heapIn : Call → Heap
 heapIn k = newHeap (openSlots (openKind (k .operands .a) (k .operands .b)) (k .operands .a)) (k .operands .c) (weightsIn k)
+
+-- ---- turns
+
+-- 26 is lent so many bytes as it names, any other command its string
+unfoldable pub lentBytes : List ℕ → ℕ → Call → List ℕ
+lentBytes input n k = cond (eqb n 0x26) (filled (λ i. 0xEE) (k .operands .b)) (filled (λ i. getD input (k .from + i) 0) (k .to - k .from))
+
+-- 0F is lent so many places as it names
+unfoldable pub lentPlaces : ℕ → Call → List ℕ
+lentPlaces n k = filled (λ i. 0xAAAAAAAAAAAA0000 + i) (cond (eqb n 0x0F) (k .operands .a) 0)
+
+-- the command n, read as k, with memory lent to it: where it names more than the buffers have, the script ends
+pub data LentLine (input words : List ℕ) (n used : ℕ) (k : Call) (p : Session) (b : State) (out : List ℕ) (r : Session) (a : State) (out′ : List ℕ) : Type 0 where
+  many-places : 65536 < cond (eqb n 0x0F) (k .operands .a) 0 → EndLine p used (length input) out out′ r → LentLine input words n used k p b out r a out′
+  many-bytes : n ≡ 0x26 → 524288 < k .operands .b → EndLine p used (length input) out out′ r → LentLine input words n used k p b out r a out′
+  lent-call : (bytes′ places′ : List ℕ) → cond (eqb n 0x0F) (k .operands .a) 0 ≤ 65536 → (n ≡ 0x26 → k .operands .b ≤ 524288) →
+      CallLine (layoutOf (layoutIn input p)) n (k .operands) (take (k .words) words) (take (k .frames) (drop (k .words) words)) b (lentBytes input n k) (lentPlaces n k) out a bytes′ places′ out′ (r .end) → LentLine input words n used k p b out r a out′
+
+pub record Buffers : Type 0 where
+  pub slots : List ℕ
+  pub scalars : List ℕ
+  pub list : List ℕ
+  pub directory : List ℕ
+  pub cells : List ℕ
+  pub marks : List ℕ
+  pub order : List ℕ
+  pub table : List ℕ
+  pub roots : List ℕ
+  pub words : List ℕ
+  pub places : List ℕ
+  pub out : List ℕ
+
+abbrev pub seatedIn : Buffers → Session → State
+seatedIn u p = seated (u .slots) (u .scalars) (u .list) (u .directory) (u .cells) p
+
+abbrev pub besideIn : Buffers → Beside
+besideIn u = beside (u .table) (u .marks) (u .order)
+
+-- the heap that 00 opens, over the first cells
+abbrev pub openIn : Buffers → Call → State
+openIn u k = state (heapIn k) (u .slots) (u .scalars) (u .list) (u .directory) (take (openCells (openKind (k .operands .a) (k .operands .b)) (k .operands .b)) (u .cells))
+
+-- the line of the command n, read as k
+pub data TurnLine (input : List ℕ) (n : ℕ) (k : Call) (u : Buffers) (p : Session) (v : Buffers) (r : Session) : Type 0 where
+  missing : k .known ≡ false → EndLine p (p .heap .account .used) (length input) (u .out) (v .out) r → TurnLine input n k u p v r
+  open-heap : k .known ≡ true → n ≡ 0x00 → OpenLine (openingIn input k) (openIn u k) (besideIn u) (openKind (k .operands .a) (k .operands .b)) (p .heap .account .used) (u .out) (besideIn v) (v .out) (r .end) → TurnLine input n k u p v r
+  one-root : k .known ≡ true → n ≡ 0x0B → RootLine p (k .operands .a) (k .next) (p .heap .account .used) (u .roots) (u .out) (v .roots) (v .out) r → TurnLine input n k u p v r
+  all-roots : (bytes′ : List ℕ) → k .known ≡ true → n ≡ 0x0C → CallLine (layoutOf (layoutIn input p)) n (k .operands) (take (p .count) (u .roots)) [] (seatedIn u p) [] (u .places) (u .out) (seatedIn v r) bytes′ (v .places) (v .out) (r .end) → TurnLine input n k u p v r
+  other : k .known ≡ true → (n ≡ 0x00 → ⊥) → (n ≡ 0x0B → ⊥) → (n ≡ 0x0C → ⊥) → LentLine input (v .words) n (p .heap .account .used) k p (seatedIn u p) (u .out) r (seatedIn v r) (v .out) → TurnLine input n k u p v r
+
+-- the command at the session's place, and its line
+pub record Turned (input : List ℕ) (u : Buffers) (p : Session) (v : Buffers) (r : Session) : Type 0 where
+  pub call : Call
+  pub reads : Reads input (p .at) (v .words) call
+  pub line : TurnLine input (getD input (p .at) 0) call u p v r

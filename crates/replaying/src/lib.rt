@@ -13,7 +13,7 @@ ghost use Rattle.heap.specs.Good.{Good};
 ghost use Rattle.heap.specs.Opens.{Opens, beside, newHeap, openingOf};
 ghost use Rattle.commands.specs.Commands.{commandCall};
 ghost use Rattle.commands.specs.Lists.{CommandedBy, Ready};
-ghost use Rattle.replaying.specs.Turns.{CallLine, EndLine, Filled, Goes, OpenLine, RootLine, Sits, adjusted, callCode, heapIn, importWord, layoutIn, movedTo, openCells, openKind, openSlots, openedText, openingIn, performedText, seated, shownBytes, weightsIn};
+ghost use Rattle.replaying.specs.Turns.{CallLine, EndLine, Filled, Goes, LentLine, OpenLine, RootLine, Sits, Turned, adjusted, callCode, heapIn, importWord, layoutIn, movedTo, openCells, openKind, openSlots, openedText, openingIn, performedText, seated, shownBytes, weightsIn};
 ghost use Rattle.script.specs.Reads as Script;
 ghost use Rattle.text.specs.Puts.{Puts};
 ghost use Rattle.replaying.specs.Lines.{answerForms, bufferText, extraText, fieldText, forms, formsOf, hasSecond, hexText, lentText, lineText, listText, withLast, withSecond};
@@ -762,6 +762,7 @@ fn lent_turn(
     ensures { λ r. ⌜ Sits (now (input .entry)) (now (slots .exit)) (now (scalars .exit)) (now (list .exit)) (now (directory .exit)) (now (cells .exit)) (now (marks .exit)) (now (order .exit)) (now (table .entry)) r ⌝ }
     ensures { λ r. ⌜ Goes (call .next) (length (now (input .entry))) (r .at) ⌝ }
     ensures { λ r. ⌜ r .end ≤ length (now (out .exit)) ⌝ }
+    ensures { λ r. ⌜ LentLine (now (input .entry)) (now (words .entry)) code used call p (seated (now (slots .entry)) (now (scalars .entry)) (now (list .entry)) (now (directory .entry)) (now (cells .entry)) p) (now (out .entry)) r (seated (now (slots .exit)) (now (scalars .exit)) (now (list .exit)) (now (directory .exit)) (now (cells .exit)) r) (now (out .exit)) ⌝ }
 {
     let o = call.operands;
     let size = lent_bytes(code, o.b, call.to - call.from);
@@ -816,6 +817,7 @@ pub fn turn(
     ensures { λ r. ⌜ Sits (now (input .entry)) (now (slots .exit)) (now (scalars .exit)) (now (list .exit)) (now (directory .exit)) (now (cells .exit)) (now (marks .exit)) (now (order .exit)) (now (table .exit)) r ⌝ }
     ensures { λ r. ⌜ p .at < r .at ⌝ }
     ensures { λ r. ⌜ r .end ≤ length (now (out .exit)) ⌝ }
+    ensures { λ r. ⌜ Turned (now (input .entry)) (record { slots = now (slots .entry); scalars = now (scalars .entry); list = now (list .entry); directory = now (directory .entry); cells = now (cells .entry); marks = now (marks .entry); order = now (order .entry); table = now (table .entry); roots = now (roots .entry); words = now (words .entry); places = now (places .entry); out = now (out .entry) }) p (record { slots = now (slots .exit); scalars = now (scalars .exit); list = now (list .exit); directory = now (directory .exit); cells = now (cells .exit); marks = now (marks .exit); order = now (order .exit); table = now (table .exit); roots = now (roots .exit); words = now (words .exit); places = now (places .exit); out = now (out .exit) }) r ⌝ }
 {
     let at = p.at;
     let call = script::read_call(input, at, words);

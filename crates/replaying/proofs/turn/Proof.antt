@@ -1,6 +1,8 @@
+use borrow.Author.Tests.{not-false, not-true}
 use native.Mathlib.Omega.{arith}
 use mathlib.Core.Path.{sym}
 use lib.Seq.{length-take-le}
+use Rattle.replaying.specs.Turns.{all-roots, missing, one-root, open-heap, other}
 use Rattle.replaying.proofs.CallLaws.{ended-later, puts-within, rooted-later}
 use borrow.Author.Needs.{needs}
 use Rattle.replaying.proofs.turn.Statement.{statement}
@@ -19,7 +21,7 @@ same-length-2 : tie.Need-same-length-2
 same-length-2 c = search needs
 
 returns : tie.Need-returns
-returns c = ended-later (c .before .before .before .before .before .before .before .before .before .before .before .before .before .before .before .before .before .before .before .before .before .before .before .before .before .before .pre .0) (c .before .before .ended .ensures) (omega (arith, (c .before .before .before .before .before .before .before .before .before .before .before .before .before .before .before .before .before .before .before .before .before .before .before .before .before .before .pre .1 .0)))
+returns c = let t = ended-later (c .before .before .before .before .before .before .before .before .before .before .before .before .before .before .before .before .before .before .before .before .before .before .before .before .before .before .pre .0) (c .before .before .ended .ensures) (omega (arith, (c .before .before .before .before .before .before .before .before .before .before .before .before .before .before .before .before .before .before .before .before .before .before .before .before .before .before .pre .1 .0))) in (t .0, (t .1 .0, (t .1 .1, record { call = (c .before .before .before .before .before .before .before .before .before .before .read-call .result); reads = (c .before .before .before .before .before .before .before .before .before .before .read-call .ensures); line = missing (not-true ((c .before .before .before .before .before .before .before .before .before .before .read-call .result .known)) (c .before .before .before .before .if1 .taken)) (c .before .before .ended .ensures) })))
 
 shared-slice-read-code : tie.Need-shared-slice-read-code
 shared-slice-read-code c = search needs
@@ -88,7 +90,7 @@ same-length-12 : tie.Need-same-length-12
 same-length-12 c = search needs
 
 returns-2 : tie.Need-returns-2
-returns-2 c = ((c .before .before .before .before .before .before .before .before .open-turn .ensures .0), (omega (arith, (c .before .before .before .before .before .before .before .before .open-turn .ensures .1 .1 .onward), (c .before .before .before .before .before .before .before .before .before .before .before .before .before .before .before .before .before .before .before .before .before .before .before .before .before .before .before .read-call .ensures .onward)), puts-within ((c .before .before .before .before .before .before .before .before .open-turn .ensures .1 .0 .text))))
+returns-2 c = ((c .before .before .before .before .before .before .before .before .open-turn .ensures .0), (omega (arith, (c .before .before .before .before .before .before .before .before .open-turn .ensures .1 .1 .onward), (c .before .before .before .before .before .before .before .before .before .before .before .before .before .before .before .before .before .before .before .before .before .before .before .before .before .before .before .read-call .ensures .onward)), (puts-within ((c .before .before .before .before .before .before .before .before .open-turn .ensures .1 .0 .text)), record { call = (c .before .before .before .before .before .before .before .before .before .before .before .before .before .before .before .before .before .before .before .before .before .before .before .before .before .before .before .read-call .result); reads = (c .before .before .before .before .before .before .before .before .before .before .before .before .before .before .before .before .before .before .before .before .before .before .before .before .before .before .before .read-call .ensures); line = open-heap (not-false ((c .before .before .before .before .before .before .before .before .before .before .before .before .before .before .before .before .before .before .before .before .before .before .before .before .before .before .before .read-call .result .known)) (c .before .before .before .before .before .before .before .before .before .before .before .before .before .before .before .before .before .before .before .before .before .if1 .left)) (c .before .before .before .before .before .before .before .before .before .before .before .before .before .before .before .before .before .before .match .keys1) (c .before .before .before .before .before .before .before .before .open-turn .ensures .1 .0) })))
 
 same-length-13 : tie.Need-same-length-13
 same-length-13 c = search needs
@@ -100,7 +102,7 @@ same-length-15 : tie.Need-same-length-15
 same-length-15 c = search needs
 
 returns-3 : tie.Need-returns-3
-returns-3 c = rooted-later (c .before .before .before .before .before .before .before .before .before .before .before .before .before .before .before .before .before .before .before .before .before .before .before .before .before .before .before .before .before .before .before .before .pre .0) (c .before .before .before .before .root-turn .ensures) (c .before .before .before .before .before .before .before .before .before .before .before .before .before .before .before .before .read-call .ensures .onward) (c .before .before .before .before .before .before .before .before .before .before .before .before .before .before .before .before .read-call .ensures .within)
+returns-3 c = let t = rooted-later (c .before .before .before .before .before .before .before .before .before .before .before .before .before .before .before .before .before .before .before .before .before .before .before .before .before .before .before .before .before .before .before .before .pre .0) (c .before .before .before .before .root-turn .ensures) (c .before .before .before .before .before .before .before .before .before .before .before .before .before .before .before .before .read-call .ensures .onward) (c .before .before .before .before .before .before .before .before .before .before .before .before .before .before .before .before .read-call .ensures .within) in (t .0, (t .1 .0, (t .1 .1, record { call = (c .before .before .before .before .before .before .before .before .before .before .before .before .before .before .before .before .read-call .result); reads = (c .before .before .before .before .before .before .before .before .before .before .before .before .before .before .before .before .read-call .ensures); line = one-root (not-false ((c .before .before .before .before .before .before .before .before .before .before .before .before .before .before .before .before .read-call .result .known)) (c .before .before .before .before .before .before .before .before .before .before .if1 .left)) (c .before .before .before .before .before .before .before .match .keys2) (c .before .before .before .before .root-turn .ensures) })))
 
 same-length-16 : tie.Need-same-length-16
 same-length-16 c = (c .before .before .before .before .before .before .before .before .before .before .before .before .before .before .before .before .before .before .before .slots .given)
@@ -142,7 +144,7 @@ same-length-28 : tie.Need-same-length-28
 same-length-28 c = search needs
 
 returns-4 : tie.Need-returns-4
-returns-4 c = ((c .before .before .before .before .before .before .before .before .before .before .before .before .before .before .before .before .before .before .before .before .call-turn .ensures .0), (omega (arith, (c .before .before .before .before .before .before .before .before .before .before .before .before .before .before .before .before .before .before .before .before .call-turn .ensures .1 .1 .0 .onward), (c .before .before .before .before .before .before .before .before .before .before .before .before .before .before .before .before .before .before .before .before .before .before .before .before .before .before .before .before .before .before .before .before .before .before .before .before .before .before .before .before .before .before .before .read-call .ensures .onward)), (c .before .before .before .before .before .before .before .before .before .before .before .before .before .before .before .before .before .before .before .before .call-turn .ensures .1 .1 .1)))
+returns-4 c = ((c .before .before .before .before .before .before .before .before .before .before .before .before .before .before .before .before .before .before .before .before .call-turn .ensures .0), (omega (arith, (c .before .before .before .before .before .before .before .before .before .before .before .before .before .before .before .before .before .before .before .before .call-turn .ensures .1 .1 .0 .onward), (c .before .before .before .before .before .before .before .before .before .before .before .before .before .before .before .before .before .before .before .before .before .before .before .before .before .before .before .before .before .before .before .before .before .before .before .before .before .before .before .before .before .before .before .read-call .ensures .onward)), ((c .before .before .before .before .before .before .before .before .before .before .before .before .before .before .before .before .before .before .before .before .call-turn .ensures .1 .1 .1), record { call = (c .before .before .before .before .before .before .before .before .before .before .before .before .before .before .before .before .before .before .before .before .before .before .before .before .before .before .before .before .before .before .before .before .before .before .before .before .before .before .before .before .before .before .before .read-call .result); reads = (c .before .before .before .before .before .before .before .before .before .before .before .before .before .before .before .before .before .before .before .before .before .before .before .before .before .before .before .before .before .before .before .before .before .before .before .before .before .before .before .before .before .before .before .read-call .ensures); line = all-roots _ (not-false ((c .before .before .before .before .before .before .before .before .before .before .before .before .before .before .before .before .before .before .before .before .before .before .before .before .before .before .before .before .before .before .before .before .before .before .before .before .before .before .before .before .before .before .before .read-call .result .known)) (c .before .before .before .before .before .before .before .before .before .before .before .before .before .before .before .before .before .before .before .before .before .before .before .before .before .before .before .before .before .before .before .before .before .before .before .before .before .if1 .left)) (c .before .before .before .before .before .before .before .before .before .before .before .before .before .before .before .before .before .before .before .before .before .before .before .before .before .before .before .before .before .before .before .before .before .before .match .keys3) (c .before .before .before .before .before .before .before .before .before .before .before .before .before .before .before .before .before .before .before .before .call-turn .ensures .1 .0) })))
 
 same-length-29 : tie.Need-same-length-29
 same-length-29 c = (c .before .before .before .before .before .before .before .before .before .before .before .before .before .before .before .before .before .before .before .slots2 .given)
@@ -181,7 +183,7 @@ same-length-40 : tie.Need-same-length-40
 same-length-40 c = search needs
 
 returns-5 : tie.Need-returns-5
-returns-5 c = ((c .before .before .before .before .before .before .before .before .before .before .before .before .before .before .before .before .before .before .before .before .lent-turn .ensures .0), (omega (arith, (c .before .before .before .before .before .before .before .before .before .before .before .before .before .before .before .before .before .before .before .before .lent-turn .ensures .1 .0 .onward), (c .before .before .before .before .before .before .before .before .before .before .before .before .before .before .before .before .before .before .before .before .before .before .before .before .before .before .before .before .before .before .before .before .before .before .before .before .before .before .before .before .before .before .read-call .ensures .onward)), (c .before .before .before .before .before .before .before .before .before .before .before .before .before .before .before .before .before .before .before .before .lent-turn .ensures .1 .1)))
+returns-5 c = ((c .before .before .before .before .before .before .before .before .before .before .before .before .before .before .before .before .before .before .before .before .lent-turn .ensures .0), (omega (arith, (c .before .before .before .before .before .before .before .before .before .before .before .before .before .before .before .before .before .before .before .before .lent-turn .ensures .1 .0 .onward), (c .before .before .before .before .before .before .before .before .before .before .before .before .before .before .before .before .before .before .before .before .before .before .before .before .before .before .before .before .before .before .before .before .before .before .before .before .before .before .before .before .before .before .read-call .ensures .onward)), ((c .before .before .before .before .before .before .before .before .before .before .before .before .before .before .before .before .before .before .before .before .lent-turn .ensures .1 .1 .0), record { call = (c .before .before .before .before .before .before .before .before .before .before .before .before .before .before .before .before .before .before .before .before .before .before .before .before .before .before .before .before .before .before .before .before .before .before .before .before .before .before .before .before .before .before .read-call .result); reads = (c .before .before .before .before .before .before .before .before .before .before .before .before .before .before .before .before .before .before .before .before .before .before .before .before .before .before .before .before .before .before .before .before .before .before .before .before .before .before .before .before .before .before .read-call .ensures); line = other (not-false ((c .before .before .before .before .before .before .before .before .before .before .before .before .before .before .before .before .before .before .before .before .before .before .before .before .before .before .before .before .before .before .before .before .before .before .before .before .before .before .before .before .before .before .read-call .result .known)) (c .before .before .before .before .before .before .before .before .before .before .before .before .before .before .before .before .before .before .before .before .before .before .before .before .before .before .before .before .before .before .before .before .before .before .before .before .if1 .left)) (c .before .before .before .before .before .before .before .before .before .before .before .before .before .before .before .before .before .before .before .before .before .before .before .before .before .before .before .before .before .before .before .before .before .match .rest .0 .0 .1) (c .before .before .before .before .before .before .before .before .before .before .before .before .before .before .before .before .before .before .before .before .before .before .before .before .before .before .before .before .before .before .before .before .before .match .rest .0 .1) (c .before .before .before .before .before .before .before .before .before .before .before .before .before .before .before .before .before .before .before .before .before .before .before .before .before .before .before .before .before .before .before .before .before .match .rest .1) (c .before .before .before .before .before .before .before .before .before .before .before .before .before .before .before .before .before .before .before .before .lent-turn .ensures .1 .1 .1) })))
 
 pub turn-spec : {M : Type 1} → statement M
 turn-spec =
