@@ -114,4 +114,3 @@ pub record Collects (l : Layout) (roots places : List ℕ) (b : State) (r : ℕ)
   pub lent : list ws ≡ (step (modelOf l b) (Calls.collect roots places)) .lent
   pub next : modelOf l a ≡ (step (modelOf l b) (Calls.collect roots places)) .next
   pub good : Good a
-

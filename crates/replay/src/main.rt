@@ -46,8 +46,21 @@ fn play(
     let mut p = first;
     while p.at < input.len() {
         p = replaying::turn(
-            p, slots, scalars, list, directory, cells, marks, order, table, roots, input, words,
-            bytes, places, out,
+            p,
+            slots,
+            scalars,
+            list,
+            directory,
+            cells,
+            marks,
+            order,
+            table,
+            roots,
+            input,
+            words,
+            bytes,
+            places,
+            out,
         );
         let end = p.end;
         io::write_all(STDOUT_FILENO, &out[..end]);
@@ -71,12 +84,32 @@ fn run(input: &[u8])
     let mut places = [0u64; 65536];
     let mut out = line_buffer();
     match replaying::start(
-        &slots, &scalars, &list, &directory, &cells, &mut marks, &mut order, &mut table, input,
+        &slots,
+        &scalars,
+        &list,
+        &directory,
+        &cells,
+        &mut marks,
+        &mut order,
+        &mut table,
+        input,
     ) {
         Started::Refused => {},
         Started::Ready(p) => play(
-            p, &mut slots, &mut scalars, &mut list, &mut directory, &mut cells, &mut marks,
-            &mut order, &mut table, &mut roots, input, &mut words, &mut bytes, &mut places,
+            p,
+            &mut slots,
+            &mut scalars,
+            &mut list,
+            &mut directory,
+            &mut cells,
+            &mut marks,
+            &mut order,
+            &mut table,
+            &mut roots,
+            input,
+            &mut words,
+            &mut bytes,
+            &mut places,
             &mut out,
         ),
     }

@@ -781,15 +781,47 @@ fn lent_turn(
         let b = size as usize;
         fill_bytes(bytes, b);
         return call_turn(
-            p, slots, scalars, list, directory, cells, marks, order, table, input, code, o,
-            &words[..w], &words[w..e], &mut bytes[..b], &mut places[..n], call.next, out,
+            p,
+            slots,
+            scalars,
+            list,
+            directory,
+            cells,
+            marks,
+            order,
+            table,
+            input,
+            code,
+            o,
+            &words[..w],
+            &words[w..e],
+            &mut bytes[..b],
+            &mut places[..n],
+            call.next,
+            out,
         );
     }
     let b = size as usize;
     copy_bytes(bytes, b, input, call.from);
     call_turn(
-        p, slots, scalars, list, directory, cells, marks, order, table, input, code, o,
-        &words[..w], &words[w..e], &mut bytes[..b], &mut places[..n], call.next, out,
+        p,
+        slots,
+        scalars,
+        list,
+        directory,
+        cells,
+        marks,
+        order,
+        table,
+        input,
+        code,
+        o,
+        &words[..w],
+        &words[w..e],
+        &mut bytes[..b],
+        &mut places[..n],
+        call.next,
+        out,
     )
 }
 
@@ -831,19 +863,62 @@ pub fn turn(
     let code = input[at] as u64;
     match code {
         0x00 => open_turn(
-            p, call, used, slots, scalars, list, directory, cells, marks, order, table, input, out,
+            p,
+            call,
+            used,
+            slots,
+            scalars,
+            list,
+            directory,
+            cells,
+            marks,
+            order,
+            table,
+            input,
+            out,
         ),
         0x0B => root_turn(p, o.a, call.next, used, roots, out),
         0x0C => {
             let n = p.count;
             call_turn(
-                p, slots, scalars, list, directory, cells, marks, order, table, input, code, o,
-                &roots[..n], &words[..0], &mut bytes[..0], places, call.next, out,
+                p,
+                slots,
+                scalars,
+                list,
+                directory,
+                cells,
+                marks,
+                order,
+                table,
+                input,
+                code,
+                o,
+                &roots[..n],
+                &words[..0],
+                &mut bytes[..0],
+                places,
+                call.next,
+                out,
             )
         }
         _ => lent_turn(
-            p, slots, scalars, list, directory, cells, marks, order, table, input, code, call,
-            words, bytes, places, used, out,
+            p,
+            slots,
+            scalars,
+            list,
+            directory,
+            cells,
+            marks,
+            order,
+            table,
+            input,
+            code,
+            call,
+            words,
+            bytes,
+            places,
+            used,
+            out,
         ),
     }
 }
@@ -876,8 +951,21 @@ pub fn start(
         frame: 32,
     };
     match open_in(
-        256, 1048576, weights, 2048, table, marks, order, slots, scalars, list, directory, cells,
-        input, 0, 1,
+        256,
+        1048576,
+        weights,
+        2048,
+        table,
+        marks,
+        order,
+        slots,
+        scalars,
+        list,
+        directory,
+        cells,
+        input,
+        0,
+        1,
     ) {
         Opened::Refused(q) => Started::Refused,
         Opened::Ready(h) => Started::Ready(Session {

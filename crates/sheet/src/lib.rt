@@ -410,14 +410,24 @@ fn turn(
     match operands_at(input, at) {
         Operands::Missing => {
             let e = text::put_unknown(out, end, used);
-            Progress { heap, count, at: input.len(), end: e }
+            Progress {
+                heap,
+                count,
+                at: input.len(),
+                end: e,
+            }
         },
         Operands::Bytes(n) => {
             let command = input[at];
             let start = at + 1;
             if command == 0x0B {
                 let r = root_turn(used, roots, count, &input[start..], out, end);
-                return Progress { heap, count: r.count, at: start + n, end: r.end };
+                return Progress {
+                    heap,
+                    count: r.count,
+                    at: start + n,
+                    end: r.end,
+                };
             }
             let c = call_turn(
                 heap,
@@ -437,7 +447,12 @@ fn turn(
                 end,
             );
             let h = c.heap;
-            Progress { heap: h, count, at: start + n, end: c.end }
+            Progress {
+                heap: h,
+                count,
+                at: start + n,
+                end: c.end,
+            }
         }
     }
 }
@@ -469,8 +484,22 @@ fn play(
     let mut end: usize = 0;
     while at < input.len() {
         let p = turn(
-            h, slots, scalars, list, directory, cells, marks, order, layout, table, roots, count,
-            input, at, out, end,
+            h,
+            slots,
+            scalars,
+            list,
+            directory,
+            cells,
+            marks,
+            order,
+            layout,
+            table,
+            roots,
+            count,
+            input,
+            at,
+            out,
+            end,
         );
         h = p.heap;
         count = p.count;
@@ -509,11 +538,33 @@ fn run_in(
         frame: 32,
     };
     match heap::open(
-        256, 1048576, weights, &layout, table, marks, order, slots, scalars, list, directory, cells,
+        256,
+        1048576,
+        weights,
+        &layout,
+        table,
+        marks,
+        order,
+        slots,
+        scalars,
+        list,
+        directory,
+        cells,
     ) {
         Opened::Refused(q) => 0,
         Opened::Ready(h) => play(
-            h, slots, scalars, list, directory, cells, marks, order, &layout, table, roots, input,
+            h,
+            slots,
+            scalars,
+            list,
+            directory,
+            cells,
+            marks,
+            order,
+            &layout,
+            table,
+            roots,
+            input,
             out,
         ),
     }
