@@ -30,7 +30,7 @@ pub const CELLS: usize = 1_048_576;
 
 /// The record and the buffers, made once; every opening takes them as they are.
 pub struct Ours {
-    heap: [u64; 18],
+    heap: [u64; 19],
     slots: Vec<u64>,
     scalars: Vec<u64>,
     list: Vec<u64>,
@@ -46,7 +46,7 @@ pub struct Ours {
 impl Ours {
     pub fn new() -> Ours {
         Ours {
-            heap: [0; 18],
+            heap: [0; 19],
             slots: vec![1; SLOTS * 8],
             scalars: vec![1; SLOTS * 8],
             list: vec![1; SLOTS],

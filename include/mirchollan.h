@@ -1,7 +1,7 @@
 /*
  * mirchollan.h: the heap for C. Link target/staticlib/libcapi.a, which `rt staticlib capi` proves and writes.
  *
- * A heap is a record of eighteen words and buffers that the caller lends; the library allocates nothing. For n slots
+ * A heap is a record of nineteen words and buffers that the caller lends; the library allocates nothing. For n slots
  * (1 to 65,536) and c cells (0 to 1,048,576) the buffers are
  *
  *     slots      8 n words           order      2 n 32-bit numbers
@@ -95,7 +95,7 @@ typedef struct {
 
 /* A heap: its record, and the memory lent to it. */
 typedef struct {
-    uint64_t record[18];
+    uint64_t record[19];
     uint64_t *slots, *scalars, *list, *directory, *cells;
     size_t slots_length, scalars_length, list_length, directory_length, cells_length;
     const uint8_t *layout;
@@ -117,353 +117,353 @@ uint64_t mch_integer_word(int64_t z, mirchollan_answer *answer);
 uint64_t mch_reference_word(uint32_t slot, uint16_t tag, mirchollan_answer *answer);
 uint64_t mch_read_word(uint64_t word, mirchollan_answer *answer);
 uint64_t mch_same_words(uint64_t a, uint64_t b, mirchollan_answer *answer);
-uint64_t mch_open(uint64_t record[18], uint64_t size, uint64_t limit, const mirchollan_weights *weights,
+uint64_t mch_open(uint64_t record[19], uint64_t size, uint64_t limit, const mirchollan_weights *weights,
     const uint8_t *layout, size_t layout_length, uint64_t *table, size_t table_length, uint8_t *marks,
     size_t marks_length, uint32_t *order, size_t order_length, const uint64_t *slots, size_t slots_length,
     const uint64_t *scalars, size_t scalars_length, const uint64_t *list, size_t list_length,
     const uint64_t *directory, size_t directory_length, const uint64_t *cells, size_t cells_length);
-uint64_t mch_collect(uint64_t record[18], uint64_t *slots, size_t slots_length, uint64_t *scalars,
+uint64_t mch_collect(uint64_t record[19], uint64_t *slots, size_t slots_length, uint64_t *scalars,
     size_t scalars_length, uint64_t *list, size_t list_length, const uint64_t *directory, size_t directory_length,
     const uint64_t *cells, size_t cells_length, const uint8_t *layout, size_t layout_length, const uint64_t *table,
     size_t table_length, uint8_t *marks, size_t marks_length, uint32_t *order, size_t order_length,
     const uint64_t *roots, size_t roots_length, uint64_t *places, size_t places_length, mirchollan_answer *answer);
-uint64_t mch_charge(uint64_t record[18], const uint64_t *slots, size_t slots_length, const uint64_t *scalars,
+uint64_t mch_charge(uint64_t record[19], const uint64_t *slots, size_t slots_length, const uint64_t *scalars,
     size_t scalars_length, const uint64_t *list, size_t list_length, const uint64_t *directory,
     size_t directory_length, const uint64_t *cells, size_t cells_length, uint64_t bytes, mirchollan_answer *answer);
-uint64_t mch_fits(const uint64_t record[18], const uint64_t *slots, size_t slots_length, const uint64_t *scalars,
+uint64_t mch_fits(const uint64_t record[19], const uint64_t *slots, size_t slots_length, const uint64_t *scalars,
     size_t scalars_length, const uint64_t *list, size_t list_length, const uint64_t *directory,
     size_t directory_length, const uint64_t *cells, size_t cells_length, uint64_t bytes, mirchollan_answer *answer);
-uint64_t mch_wants_gc(const uint64_t record[18], const uint64_t *slots, size_t slots_length, const uint64_t *scalars,
+uint64_t mch_wants_gc(const uint64_t record[19], const uint64_t *slots, size_t slots_length, const uint64_t *scalars,
     size_t scalars_length, const uint64_t *list, size_t list_length, const uint64_t *directory,
     size_t directory_length, const uint64_t *cells, size_t cells_length, uint64_t extra, mirchollan_answer *answer);
-uint64_t mch_collection_count(const uint64_t record[18], const uint64_t *slots, size_t slots_length,
+uint64_t mch_collection_count(const uint64_t record[19], const uint64_t *slots, size_t slots_length,
     const uint64_t *scalars, size_t scalars_length, const uint64_t *list, size_t list_length,
     const uint64_t *directory, size_t directory_length, const uint64_t *cells, size_t cells_length,
     mirchollan_answer *answer);
-uint64_t mch_freed_count(const uint64_t record[18], const uint64_t *slots, size_t slots_length,
+uint64_t mch_freed_count(const uint64_t record[19], const uint64_t *slots, size_t slots_length,
     const uint64_t *scalars, size_t scalars_length, const uint64_t *list, size_t list_length,
     const uint64_t *directory, size_t directory_length, const uint64_t *cells, size_t cells_length,
     mirchollan_answer *answer);
-uint64_t mch_used_bytes(const uint64_t record[18], const uint64_t *slots, size_t slots_length,
+uint64_t mch_used_bytes(const uint64_t record[19], const uint64_t *slots, size_t slots_length,
     const uint64_t *scalars, size_t scalars_length, const uint64_t *list, size_t list_length,
     const uint64_t *directory, size_t directory_length, const uint64_t *cells, size_t cells_length,
     mirchollan_answer *answer);
-uint64_t mch_present_count(const uint64_t record[18], const uint64_t *slots, size_t slots_length,
+uint64_t mch_present_count(const uint64_t record[19], const uint64_t *slots, size_t slots_length,
     const uint64_t *scalars, size_t scalars_length, const uint64_t *list, size_t list_length,
     const uint64_t *directory, size_t directory_length, const uint64_t *cells, size_t cells_length,
     mirchollan_answer *answer);
-uint64_t mch_cells_in_use(const uint64_t record[18], const uint64_t *slots, size_t slots_length,
+uint64_t mch_cells_in_use(const uint64_t record[19], const uint64_t *slots, size_t slots_length,
     const uint64_t *scalars, size_t scalars_length, const uint64_t *list, size_t list_length,
     const uint64_t *directory, size_t directory_length, const uint64_t *cells, size_t cells_length,
     mirchollan_answer *answer);
-uint64_t mch_new_string(uint64_t record[18], uint64_t *slots, size_t slots_length, const uint64_t *scalars,
+uint64_t mch_new_string(uint64_t record[19], uint64_t *slots, size_t slots_length, const uint64_t *scalars,
     size_t scalars_length, const uint64_t *list, size_t list_length, uint64_t *directory, size_t directory_length,
     uint64_t *cells, size_t cells_length, const uint8_t *bytes, size_t bytes_length, mirchollan_answer *answer);
-uint64_t mch_new_integer(uint64_t record[18], uint64_t *slots, size_t slots_length, const uint64_t *scalars,
+uint64_t mch_new_integer(uint64_t record[19], uint64_t *slots, size_t slots_length, const uint64_t *scalars,
     size_t scalars_length, const uint64_t *list, size_t list_length, const uint64_t *directory,
     size_t directory_length, const uint64_t *cells, size_t cells_length, int64_t number, mirchollan_answer *answer);
-uint64_t mch_new_cell(uint64_t record[18], uint64_t *slots, size_t slots_length, const uint64_t *scalars,
+uint64_t mch_new_cell(uint64_t record[19], uint64_t *slots, size_t slots_length, const uint64_t *scalars,
     size_t scalars_length, const uint64_t *list, size_t list_length, const uint64_t *directory,
     size_t directory_length, const uint64_t *cells, size_t cells_length, uint64_t type, uint64_t word,
     mirchollan_answer *answer);
-uint64_t mch_new_error(uint64_t record[18], uint64_t *slots, size_t slots_length, const uint64_t *scalars,
+uint64_t mch_new_error(uint64_t record[19], uint64_t *slots, size_t slots_length, const uint64_t *scalars,
     size_t scalars_length, const uint64_t *list, size_t list_length, const uint64_t *directory,
     size_t directory_length, const uint64_t *cells, size_t cells_length, uint16_t kind, uint64_t word,
     mirchollan_answer *answer);
-uint64_t mch_new_box(uint64_t record[18], uint64_t *slots, size_t slots_length, const uint64_t *scalars,
+uint64_t mch_new_box(uint64_t record[19], uint64_t *slots, size_t slots_length, const uint64_t *scalars,
     size_t scalars_length, const uint64_t *list, size_t list_length, const uint64_t *directory,
     size_t directory_length, const uint64_t *cells, size_t cells_length, uint64_t word, mirchollan_answer *answer);
-uint64_t mch_new_array(uint64_t record[18], uint64_t *slots, size_t slots_length, const uint64_t *scalars,
+uint64_t mch_new_array(uint64_t record[19], uint64_t *slots, size_t slots_length, const uint64_t *scalars,
     size_t scalars_length, const uint64_t *list, size_t list_length, uint64_t *directory, size_t directory_length,
     uint64_t *cells, size_t cells_length, uint64_t type, int64_t length, mirchollan_answer *answer);
-uint64_t mch_new_map(uint64_t record[18], uint64_t *slots, size_t slots_length, uint64_t *scalars,
+uint64_t mch_new_map(uint64_t record[19], uint64_t *slots, size_t slots_length, uint64_t *scalars,
     size_t scalars_length, const uint64_t *list, size_t list_length, const uint64_t *directory,
     size_t directory_length, const uint64_t *cells, size_t cells_length, uint64_t keys, uint64_t values,
     mirchollan_answer *answer);
-uint64_t mch_new_struct(uint64_t record[18], uint64_t *slots, size_t slots_length, const uint64_t *scalars,
+uint64_t mch_new_struct(uint64_t record[19], uint64_t *slots, size_t slots_length, const uint64_t *scalars,
     size_t scalars_length, const uint64_t *list, size_t list_length, uint64_t *directory, size_t directory_length,
     uint64_t *cells, size_t cells_length, uint64_t number, const uint64_t *fields, size_t fields_length,
     mirchollan_answer *answer);
-uint64_t mch_new_function(uint64_t record[18], uint64_t *slots, size_t slots_length, const uint64_t *scalars,
+uint64_t mch_new_function(uint64_t record[19], uint64_t *slots, size_t slots_length, const uint64_t *scalars,
     size_t scalars_length, const uint64_t *list, size_t list_length, uint64_t *directory, size_t directory_length,
     uint64_t *cells, size_t cells_length, uint64_t import, uint64_t number, const uint64_t *captures,
     size_t captures_length, mirchollan_answer *answer);
-uint64_t mch_new_iter(uint64_t record[18], uint64_t *slots, size_t slots_length, uint64_t *scalars,
+uint64_t mch_new_iter(uint64_t record[19], uint64_t *slots, size_t slots_length, uint64_t *scalars,
     size_t scalars_length, const uint64_t *list, size_t list_length, const uint64_t *directory,
     size_t directory_length, const uint64_t *cells, size_t cells_length, uint64_t source, mirchollan_answer *answer);
-uint64_t mch_new_coroutine(uint64_t record[18], uint64_t *slots, size_t slots_length, uint64_t *scalars,
+uint64_t mch_new_coroutine(uint64_t record[19], uint64_t *slots, size_t slots_length, uint64_t *scalars,
     size_t scalars_length, const uint64_t *list, size_t list_length, uint64_t *directory, size_t directory_length,
     uint64_t *cells, size_t cells_length, const mirchollan_coroutine *words, const uint64_t *registers,
     size_t registers_length, const uint64_t *frames, size_t frames_length, mirchollan_answer *answer);
-uint64_t mch_get(const uint64_t record[18], const uint64_t *slots, size_t slots_length, const uint64_t *scalars,
+uint64_t mch_get(const uint64_t record[19], const uint64_t *slots, size_t slots_length, const uint64_t *scalars,
     size_t scalars_length, const uint64_t *list, size_t list_length, const uint64_t *directory,
     size_t directory_length, const uint64_t *cells, size_t cells_length, uint64_t word, mirchollan_answer *answer);
-uint64_t mch_deref(const uint64_t record[18], const uint64_t *slots, size_t slots_length, const uint64_t *scalars,
+uint64_t mch_deref(const uint64_t record[19], const uint64_t *slots, size_t slots_length, const uint64_t *scalars,
     size_t scalars_length, const uint64_t *list, size_t list_length, const uint64_t *directory,
     size_t directory_length, const uint64_t *cells, size_t cells_length, uint64_t word, mirchollan_answer *answer);
-uint64_t mch_kind_of(const uint64_t record[18], const uint64_t *slots, size_t slots_length, const uint64_t *scalars,
+uint64_t mch_kind_of(const uint64_t record[19], const uint64_t *slots, size_t slots_length, const uint64_t *scalars,
     size_t scalars_length, const uint64_t *list, size_t list_length, const uint64_t *directory,
     size_t directory_length, const uint64_t *cells, size_t cells_length, uint64_t word, mirchollan_answer *answer);
-uint64_t mch_string_length(const uint64_t record[18], const uint64_t *slots, size_t slots_length,
+uint64_t mch_string_length(const uint64_t record[19], const uint64_t *slots, size_t slots_length,
     const uint64_t *scalars, size_t scalars_length, const uint64_t *list, size_t list_length,
     const uint64_t *directory, size_t directory_length, const uint64_t *cells, size_t cells_length, uint64_t word,
     mirchollan_answer *answer);
-uint64_t mch_read_string(const uint64_t record[18], const uint64_t *slots, size_t slots_length,
+uint64_t mch_read_string(const uint64_t record[19], const uint64_t *slots, size_t slots_length,
     const uint64_t *scalars, size_t scalars_length, const uint64_t *list, size_t list_length,
     const uint64_t *directory, size_t directory_length, const uint64_t *cells, size_t cells_length, uint64_t word,
     uint8_t *buffer, size_t buffer_length, mirchollan_answer *answer);
-uint64_t mch_read_integer(const uint64_t record[18], const uint64_t *slots, size_t slots_length,
+uint64_t mch_read_integer(const uint64_t record[19], const uint64_t *slots, size_t slots_length,
     const uint64_t *scalars, size_t scalars_length, const uint64_t *list, size_t list_length,
     const uint64_t *directory, size_t directory_length, const uint64_t *cells, size_t cells_length, uint64_t word,
     mirchollan_answer *answer);
-uint64_t mch_read_cell(const uint64_t record[18], const uint64_t *slots, size_t slots_length, const uint64_t *scalars,
+uint64_t mch_read_cell(const uint64_t record[19], const uint64_t *slots, size_t slots_length, const uint64_t *scalars,
     size_t scalars_length, const uint64_t *list, size_t list_length, const uint64_t *directory,
     size_t directory_length, const uint64_t *cells, size_t cells_length, uint64_t word, mirchollan_answer *answer);
-uint64_t mch_cell_type(const uint64_t record[18], const uint64_t *slots, size_t slots_length, const uint64_t *scalars,
+uint64_t mch_cell_type(const uint64_t record[19], const uint64_t *slots, size_t slots_length, const uint64_t *scalars,
     size_t scalars_length, const uint64_t *list, size_t list_length, const uint64_t *directory,
     size_t directory_length, const uint64_t *cells, size_t cells_length, uint64_t word, mirchollan_answer *answer);
-uint64_t mch_error_kind(const uint64_t record[18], const uint64_t *slots, size_t slots_length,
+uint64_t mch_error_kind(const uint64_t record[19], const uint64_t *slots, size_t slots_length,
     const uint64_t *scalars, size_t scalars_length, const uint64_t *list, size_t list_length,
     const uint64_t *directory, size_t directory_length, const uint64_t *cells, size_t cells_length, uint64_t word,
     mirchollan_answer *answer);
-uint64_t mch_error_word(const uint64_t record[18], const uint64_t *slots, size_t slots_length,
+uint64_t mch_error_word(const uint64_t record[19], const uint64_t *slots, size_t slots_length,
     const uint64_t *scalars, size_t scalars_length, const uint64_t *list, size_t list_length,
     const uint64_t *directory, size_t directory_length, const uint64_t *cells, size_t cells_length, uint64_t word,
     mirchollan_answer *answer);
-uint64_t mch_read_box(const uint64_t record[18], const uint64_t *slots, size_t slots_length, const uint64_t *scalars,
+uint64_t mch_read_box(const uint64_t record[19], const uint64_t *slots, size_t slots_length, const uint64_t *scalars,
     size_t scalars_length, const uint64_t *list, size_t list_length, const uint64_t *directory,
     size_t directory_length, const uint64_t *cells, size_t cells_length, uint64_t word, mirchollan_answer *answer);
-uint64_t mch_array_type(const uint64_t record[18], const uint64_t *slots, size_t slots_length,
+uint64_t mch_array_type(const uint64_t record[19], const uint64_t *slots, size_t slots_length,
     const uint64_t *scalars, size_t scalars_length, const uint64_t *list, size_t list_length,
     const uint64_t *directory, size_t directory_length, const uint64_t *cells, size_t cells_length, uint64_t word,
     mirchollan_answer *answer);
-uint64_t mch_array_length(const uint64_t record[18], const uint64_t *slots, size_t slots_length,
+uint64_t mch_array_length(const uint64_t record[19], const uint64_t *slots, size_t slots_length,
     const uint64_t *scalars, size_t scalars_length, const uint64_t *list, size_t list_length,
     const uint64_t *directory, size_t directory_length, const uint64_t *cells, size_t cells_length, uint64_t word,
     mirchollan_answer *answer);
-uint64_t mch_array_capacity(const uint64_t record[18], const uint64_t *slots, size_t slots_length,
+uint64_t mch_array_capacity(const uint64_t record[19], const uint64_t *slots, size_t slots_length,
     const uint64_t *scalars, size_t scalars_length, const uint64_t *list, size_t list_length,
     const uint64_t *directory, size_t directory_length, const uint64_t *cells, size_t cells_length, uint64_t word,
     mirchollan_answer *answer);
-uint64_t mch_read_item(const uint64_t record[18], const uint64_t *slots, size_t slots_length, const uint64_t *scalars,
+uint64_t mch_read_item(const uint64_t record[19], const uint64_t *slots, size_t slots_length, const uint64_t *scalars,
     size_t scalars_length, const uint64_t *list, size_t list_length, const uint64_t *directory,
     size_t directory_length, const uint64_t *cells, size_t cells_length, uint64_t word, uint64_t index,
     mirchollan_answer *answer);
-uint64_t mch_struct_number(const uint64_t record[18], const uint64_t *slots, size_t slots_length,
+uint64_t mch_struct_number(const uint64_t record[19], const uint64_t *slots, size_t slots_length,
     const uint64_t *scalars, size_t scalars_length, const uint64_t *list, size_t list_length,
     const uint64_t *directory, size_t directory_length, const uint64_t *cells, size_t cells_length, uint64_t word,
     mirchollan_answer *answer);
-uint64_t mch_field_count(const uint64_t record[18], const uint64_t *slots, size_t slots_length,
+uint64_t mch_field_count(const uint64_t record[19], const uint64_t *slots, size_t slots_length,
     const uint64_t *scalars, size_t scalars_length, const uint64_t *list, size_t list_length,
     const uint64_t *directory, size_t directory_length, const uint64_t *cells, size_t cells_length, uint64_t word,
     mirchollan_answer *answer);
-uint64_t mch_read_field(const uint64_t record[18], const uint64_t *slots, size_t slots_length,
+uint64_t mch_read_field(const uint64_t record[19], const uint64_t *slots, size_t slots_length,
     const uint64_t *scalars, size_t scalars_length, const uint64_t *list, size_t list_length,
     const uint64_t *directory, size_t directory_length, const uint64_t *cells, size_t cells_length, uint64_t word,
     uint64_t index, mirchollan_answer *answer);
-uint64_t mch_is_import(const uint64_t record[18], const uint64_t *slots, size_t slots_length, const uint64_t *scalars,
+uint64_t mch_is_import(const uint64_t record[19], const uint64_t *slots, size_t slots_length, const uint64_t *scalars,
     size_t scalars_length, const uint64_t *list, size_t list_length, const uint64_t *directory,
     size_t directory_length, const uint64_t *cells, size_t cells_length, uint64_t word, mirchollan_answer *answer);
-uint64_t mch_function_number(const uint64_t record[18], const uint64_t *slots, size_t slots_length,
+uint64_t mch_function_number(const uint64_t record[19], const uint64_t *slots, size_t slots_length,
     const uint64_t *scalars, size_t scalars_length, const uint64_t *list, size_t list_length,
     const uint64_t *directory, size_t directory_length, const uint64_t *cells, size_t cells_length, uint64_t word,
     mirchollan_answer *answer);
-uint64_t mch_capture_count(const uint64_t record[18], const uint64_t *slots, size_t slots_length,
+uint64_t mch_capture_count(const uint64_t record[19], const uint64_t *slots, size_t slots_length,
     const uint64_t *scalars, size_t scalars_length, const uint64_t *list, size_t list_length,
     const uint64_t *directory, size_t directory_length, const uint64_t *cells, size_t cells_length, uint64_t word,
     mirchollan_answer *answer);
-uint64_t mch_read_capture(const uint64_t record[18], const uint64_t *slots, size_t slots_length,
+uint64_t mch_read_capture(const uint64_t record[19], const uint64_t *slots, size_t slots_length,
     const uint64_t *scalars, size_t scalars_length, const uint64_t *list, size_t list_length,
     const uint64_t *directory, size_t directory_length, const uint64_t *cells, size_t cells_length, uint64_t word,
     uint64_t index, mirchollan_answer *answer);
-uint64_t mch_read_state(const uint64_t record[18], const uint64_t *slots, size_t slots_length,
+uint64_t mch_read_state(const uint64_t record[19], const uint64_t *slots, size_t slots_length,
     const uint64_t *scalars, size_t scalars_length, const uint64_t *list, size_t list_length,
     const uint64_t *directory, size_t directory_length, const uint64_t *cells, size_t cells_length, uint64_t word,
     mirchollan_answer *answer);
-uint64_t mch_read_payload(const uint64_t record[18], const uint64_t *slots, size_t slots_length,
+uint64_t mch_read_payload(const uint64_t record[19], const uint64_t *slots, size_t slots_length,
     const uint64_t *scalars, size_t scalars_length, const uint64_t *list, size_t list_length,
     const uint64_t *directory, size_t directory_length, const uint64_t *cells, size_t cells_length, uint64_t word,
     mirchollan_answer *answer);
-uint64_t mch_read_key(const uint64_t record[18], const uint64_t *slots, size_t slots_length, const uint64_t *scalars,
+uint64_t mch_read_key(const uint64_t record[19], const uint64_t *slots, size_t slots_length, const uint64_t *scalars,
     size_t scalars_length, const uint64_t *list, size_t list_length, const uint64_t *directory,
     size_t directory_length, const uint64_t *cells, size_t cells_length, uint64_t word, mirchollan_answer *answer);
-uint64_t mch_read_result(const uint64_t record[18], const uint64_t *slots, size_t slots_length,
+uint64_t mch_read_result(const uint64_t record[19], const uint64_t *slots, size_t slots_length,
     const uint64_t *scalars, size_t scalars_length, const uint64_t *list, size_t list_length,
     const uint64_t *directory, size_t directory_length, const uint64_t *cells, size_t cells_length, uint64_t word,
     mirchollan_answer *answer);
-uint64_t mch_read_signal(const uint64_t record[18], const uint64_t *slots, size_t slots_length,
+uint64_t mch_read_signal(const uint64_t record[19], const uint64_t *slots, size_t slots_length,
     const uint64_t *scalars, size_t scalars_length, const uint64_t *list, size_t list_length,
     const uint64_t *directory, size_t directory_length, const uint64_t *cells, size_t cells_length, uint64_t word,
     mirchollan_answer *answer);
-uint64_t mch_coroutine_sequence(const uint64_t record[18], const uint64_t *slots, size_t slots_length,
+uint64_t mch_coroutine_sequence(const uint64_t record[19], const uint64_t *slots, size_t slots_length,
     const uint64_t *scalars, size_t scalars_length, const uint64_t *list, size_t list_length,
     const uint64_t *directory, size_t directory_length, const uint64_t *cells, size_t cells_length, uint64_t word,
     mirchollan_answer *answer);
-uint64_t mch_coroutine_finalized(const uint64_t record[18], const uint64_t *slots, size_t slots_length,
+uint64_t mch_coroutine_finalized(const uint64_t record[19], const uint64_t *slots, size_t slots_length,
     const uint64_t *scalars, size_t scalars_length, const uint64_t *list, size_t list_length,
     const uint64_t *directory, size_t directory_length, const uint64_t *cells, size_t cells_length, uint64_t word,
     mirchollan_answer *answer);
-uint64_t mch_register_count(const uint64_t record[18], const uint64_t *slots, size_t slots_length,
+uint64_t mch_register_count(const uint64_t record[19], const uint64_t *slots, size_t slots_length,
     const uint64_t *scalars, size_t scalars_length, const uint64_t *list, size_t list_length,
     const uint64_t *directory, size_t directory_length, const uint64_t *cells, size_t cells_length, uint64_t word,
     mirchollan_answer *answer);
-uint64_t mch_frame_count(const uint64_t record[18], const uint64_t *slots, size_t slots_length,
+uint64_t mch_frame_count(const uint64_t record[19], const uint64_t *slots, size_t slots_length,
     const uint64_t *scalars, size_t scalars_length, const uint64_t *list, size_t list_length,
     const uint64_t *directory, size_t directory_length, const uint64_t *cells, size_t cells_length, uint64_t word,
     mirchollan_answer *answer);
-uint64_t mch_read_frame(const uint64_t record[18], const uint64_t *slots, size_t slots_length,
+uint64_t mch_read_frame(const uint64_t record[19], const uint64_t *slots, size_t slots_length,
     const uint64_t *scalars, size_t scalars_length, const uint64_t *list, size_t list_length,
     const uint64_t *directory, size_t directory_length, const uint64_t *cells, size_t cells_length, uint64_t word,
     uint64_t index, mirchollan_answer *answer);
-uint64_t mch_read_register(const uint64_t record[18], const uint64_t *slots, size_t slots_length,
+uint64_t mch_read_register(const uint64_t record[19], const uint64_t *slots, size_t slots_length,
     const uint64_t *scalars, size_t scalars_length, const uint64_t *list, size_t list_length,
     const uint64_t *directory, size_t directory_length, const uint64_t *cells, size_t cells_length, uint64_t word,
     uint64_t index, mirchollan_answer *answer);
-uint64_t mch_store_cell(const uint64_t record[18], uint64_t *slots, size_t slots_length, const uint64_t *scalars,
+uint64_t mch_store_cell(const uint64_t record[19], uint64_t *slots, size_t slots_length, const uint64_t *scalars,
     size_t scalars_length, const uint64_t *list, size_t list_length, const uint64_t *directory,
     size_t directory_length, const uint64_t *cells, size_t cells_length, uint64_t word, uint64_t value,
     mirchollan_answer *answer);
-uint64_t mch_store_box(const uint64_t record[18], uint64_t *slots, size_t slots_length, const uint64_t *scalars,
+uint64_t mch_store_box(const uint64_t record[19], uint64_t *slots, size_t slots_length, const uint64_t *scalars,
     size_t scalars_length, const uint64_t *list, size_t list_length, const uint64_t *directory,
     size_t directory_length, const uint64_t *cells, size_t cells_length, uint64_t word, uint64_t value,
     mirchollan_answer *answer);
-uint64_t mch_store_item(const uint64_t record[18], const uint64_t *slots, size_t slots_length,
+uint64_t mch_store_item(const uint64_t record[19], const uint64_t *slots, size_t slots_length,
     const uint64_t *scalars, size_t scalars_length, const uint64_t *list, size_t list_length,
     const uint64_t *directory, size_t directory_length, uint64_t *cells, size_t cells_length, uint64_t word,
     uint64_t index, uint64_t value, mirchollan_answer *answer);
-uint64_t mch_push(uint64_t record[18], uint64_t *slots, size_t slots_length, const uint64_t *scalars,
+uint64_t mch_push(uint64_t record[19], uint64_t *slots, size_t slots_length, const uint64_t *scalars,
     size_t scalars_length, const uint64_t *list, size_t list_length, uint64_t *directory, size_t directory_length,
     uint64_t *cells, size_t cells_length, uint64_t word, uint64_t value, mirchollan_answer *answer);
-uint64_t mch_pop(const uint64_t record[18], uint64_t *slots, size_t slots_length, const uint64_t *scalars,
+uint64_t mch_pop(const uint64_t record[19], uint64_t *slots, size_t slots_length, const uint64_t *scalars,
     size_t scalars_length, const uint64_t *list, size_t list_length, const uint64_t *directory,
     size_t directory_length, const uint64_t *cells, size_t cells_length, uint64_t word, mirchollan_answer *answer);
-uint64_t mch_store_field(const uint64_t record[18], const uint64_t *slots, size_t slots_length,
+uint64_t mch_store_field(const uint64_t record[19], const uint64_t *slots, size_t slots_length,
     const uint64_t *scalars, size_t scalars_length, const uint64_t *list, size_t list_length,
     const uint64_t *directory, size_t directory_length, uint64_t *cells, size_t cells_length, uint64_t word,
     uint64_t index, uint64_t value, mirchollan_answer *answer);
-uint64_t mch_store_capture(const uint64_t record[18], const uint64_t *slots, size_t slots_length,
+uint64_t mch_store_capture(const uint64_t record[19], const uint64_t *slots, size_t slots_length,
     const uint64_t *scalars, size_t scalars_length, const uint64_t *list, size_t list_length,
     const uint64_t *directory, size_t directory_length, uint64_t *cells, size_t cells_length, uint64_t word,
     uint64_t index, uint64_t value, mirchollan_answer *answer);
-uint64_t mch_store_register(const uint64_t record[18], const uint64_t *slots, size_t slots_length,
+uint64_t mch_store_register(const uint64_t record[19], const uint64_t *slots, size_t slots_length,
     const uint64_t *scalars, size_t scalars_length, const uint64_t *list, size_t list_length,
     const uint64_t *directory, size_t directory_length, uint64_t *cells, size_t cells_length, uint64_t word,
     uint64_t index, uint64_t value, mirchollan_answer *answer);
-uint64_t mch_store_payload(const uint64_t record[18], const uint64_t *slots, size_t slots_length, uint64_t *scalars,
+uint64_t mch_store_payload(const uint64_t record[19], const uint64_t *slots, size_t slots_length, uint64_t *scalars,
     size_t scalars_length, const uint64_t *list, size_t list_length, const uint64_t *directory,
     size_t directory_length, const uint64_t *cells, size_t cells_length, uint64_t word, uint64_t value,
     mirchollan_answer *answer);
-uint64_t mch_store_key(const uint64_t record[18], const uint64_t *slots, size_t slots_length, uint64_t *scalars,
+uint64_t mch_store_key(const uint64_t record[19], const uint64_t *slots, size_t slots_length, uint64_t *scalars,
     size_t scalars_length, const uint64_t *list, size_t list_length, const uint64_t *directory,
     size_t directory_length, const uint64_t *cells, size_t cells_length, uint64_t word, uint64_t value,
     mirchollan_answer *answer);
-uint64_t mch_store_result(const uint64_t record[18], const uint64_t *slots, size_t slots_length, uint64_t *scalars,
+uint64_t mch_store_result(const uint64_t record[19], const uint64_t *slots, size_t slots_length, uint64_t *scalars,
     size_t scalars_length, const uint64_t *list, size_t list_length, const uint64_t *directory,
     size_t directory_length, const uint64_t *cells, size_t cells_length, uint64_t word, uint64_t value,
     mirchollan_answer *answer);
-uint64_t mch_store_signal(const uint64_t record[18], const uint64_t *slots, size_t slots_length, uint64_t *scalars,
+uint64_t mch_store_signal(const uint64_t record[19], const uint64_t *slots, size_t slots_length, uint64_t *scalars,
     size_t scalars_length, const uint64_t *list, size_t list_length, const uint64_t *directory,
     size_t directory_length, const uint64_t *cells, size_t cells_length, uint64_t word, uint64_t value,
     mirchollan_answer *answer);
-uint64_t mch_set_state(const uint64_t record[18], uint64_t *slots, size_t slots_length, const uint64_t *scalars,
+uint64_t mch_set_state(const uint64_t record[19], uint64_t *slots, size_t slots_length, const uint64_t *scalars,
     size_t scalars_length, const uint64_t *list, size_t list_length, const uint64_t *directory,
     size_t directory_length, const uint64_t *cells, size_t cells_length, uint64_t word, uint64_t s,
     mirchollan_answer *answer);
-uint64_t mch_put(uint64_t record[18], uint64_t *slots, size_t slots_length, uint64_t *scalars, size_t scalars_length,
+uint64_t mch_put(uint64_t record[19], uint64_t *slots, size_t slots_length, uint64_t *scalars, size_t scalars_length,
     const uint64_t *list, size_t list_length, uint64_t *directory, size_t directory_length, uint64_t *cells,
     size_t cells_length, uint64_t word, uint64_t hash, uint64_t key, uint64_t value, mirchollan_answer *answer);
-uint64_t mch_insert_entry(uint64_t record[18], uint64_t *slots, size_t slots_length, uint64_t *scalars,
+uint64_t mch_insert_entry(uint64_t record[19], uint64_t *slots, size_t slots_length, uint64_t *scalars,
     size_t scalars_length, const uint64_t *list, size_t list_length, uint64_t *directory, size_t directory_length,
     uint64_t *cells, size_t cells_length, uint64_t word, uint64_t hash, uint64_t key, uint64_t value,
     mirchollan_answer *answer);
-uint64_t mch_find(const uint64_t record[18], const uint64_t *slots, size_t slots_length, const uint64_t *scalars,
+uint64_t mch_find(const uint64_t record[19], const uint64_t *slots, size_t slots_length, const uint64_t *scalars,
     size_t scalars_length, const uint64_t *list, size_t list_length, const uint64_t *directory,
     size_t directory_length, const uint64_t *cells, size_t cells_length, uint64_t word, uint64_t hash, uint64_t key,
     mirchollan_answer *answer);
-uint64_t mch_remove(uint64_t record[18], uint64_t *slots, size_t slots_length, uint64_t *scalars,
+uint64_t mch_remove(uint64_t record[19], uint64_t *slots, size_t slots_length, uint64_t *scalars,
     size_t scalars_length, const uint64_t *list, size_t list_length, uint64_t *directory, size_t directory_length,
     uint64_t *cells, size_t cells_length, uint64_t word, uint64_t hash, uint64_t key, mirchollan_answer *answer);
-uint64_t mch_remove_at(uint64_t record[18], uint64_t *slots, size_t slots_length, uint64_t *scalars,
+uint64_t mch_remove_at(uint64_t record[19], uint64_t *slots, size_t slots_length, uint64_t *scalars,
     size_t scalars_length, const uint64_t *list, size_t list_length, uint64_t *directory, size_t directory_length,
     uint64_t *cells, size_t cells_length, uint64_t word, uint64_t position, mirchollan_answer *answer);
-uint64_t mch_read_entry(const uint64_t record[18], const uint64_t *slots, size_t slots_length,
+uint64_t mch_read_entry(const uint64_t record[19], const uint64_t *slots, size_t slots_length,
     const uint64_t *scalars, size_t scalars_length, const uint64_t *list, size_t list_length,
     const uint64_t *directory, size_t directory_length, const uint64_t *cells, size_t cells_length, uint64_t word,
     uint64_t position, mirchollan_answer *answer);
-uint64_t mch_set_value(const uint64_t record[18], const uint64_t *slots, size_t slots_length, const uint64_t *scalars,
+uint64_t mch_set_value(const uint64_t record[19], const uint64_t *slots, size_t slots_length, const uint64_t *scalars,
     size_t scalars_length, const uint64_t *list, size_t list_length, const uint64_t *directory,
     size_t directory_length, uint64_t *cells, size_t cells_length, uint64_t word, uint64_t position, uint64_t value,
     mirchollan_answer *answer);
-uint64_t mch_note(const uint64_t record[18], uint64_t *slots, size_t slots_length, uint64_t *scalars,
+uint64_t mch_note(const uint64_t record[19], uint64_t *slots, size_t slots_length, uint64_t *scalars,
     size_t scalars_length, const uint64_t *list, size_t list_length, const uint64_t *directory,
     size_t directory_length, const uint64_t *cells, size_t cells_length, uint64_t word, int64_t key,
     mirchollan_answer *answer);
-uint64_t mch_next_key(const uint64_t record[18], const uint64_t *slots, size_t slots_length, const uint64_t *scalars,
+uint64_t mch_next_key(const uint64_t record[19], const uint64_t *slots, size_t slots_length, const uint64_t *scalars,
     size_t scalars_length, const uint64_t *list, size_t list_length, const uint64_t *directory,
     size_t directory_length, const uint64_t *cells, size_t cells_length, uint64_t word, mirchollan_answer *answer);
-uint64_t mch_noted_key(const uint64_t record[18], const uint64_t *slots, size_t slots_length, const uint64_t *scalars,
+uint64_t mch_noted_key(const uint64_t record[19], const uint64_t *slots, size_t slots_length, const uint64_t *scalars,
     size_t scalars_length, const uint64_t *list, size_t list_length, const uint64_t *directory,
     size_t directory_length, const uint64_t *cells, size_t cells_length, uint64_t word, mirchollan_answer *answer);
-uint64_t mch_next(const uint64_t record[18], const uint64_t *slots, size_t slots_length, const uint64_t *scalars,
+uint64_t mch_next(const uint64_t record[19], const uint64_t *slots, size_t slots_length, const uint64_t *scalars,
     size_t scalars_length, const uint64_t *list, size_t list_length, const uint64_t *directory,
     size_t directory_length, const uint64_t *cells, size_t cells_length, uint64_t word, mirchollan_cursor *cursor,
     mirchollan_answer *answer);
-uint64_t mch_live_count(const uint64_t record[18], const uint64_t *slots, size_t slots_length,
+uint64_t mch_live_count(const uint64_t record[19], const uint64_t *slots, size_t slots_length,
     const uint64_t *scalars, size_t scalars_length, const uint64_t *list, size_t list_length,
     const uint64_t *directory, size_t directory_length, const uint64_t *cells, size_t cells_length, uint64_t word,
     mirchollan_answer *answer);
-uint64_t mch_place_count(const uint64_t record[18], const uint64_t *slots, size_t slots_length,
+uint64_t mch_place_count(const uint64_t record[19], const uint64_t *slots, size_t slots_length,
     const uint64_t *scalars, size_t scalars_length, const uint64_t *list, size_t list_length,
     const uint64_t *directory, size_t directory_length, const uint64_t *cells, size_t cells_length, uint64_t word,
     mirchollan_answer *answer);
-uint64_t mch_is_hashed(const uint64_t record[18], const uint64_t *slots, size_t slots_length, const uint64_t *scalars,
+uint64_t mch_is_hashed(const uint64_t record[19], const uint64_t *slots, size_t slots_length, const uint64_t *scalars,
     size_t scalars_length, const uint64_t *list, size_t list_length, const uint64_t *directory,
     size_t directory_length, const uint64_t *cells, size_t cells_length, uint64_t word, mirchollan_answer *answer);
-uint64_t mch_key_type(const uint64_t record[18], const uint64_t *slots, size_t slots_length, const uint64_t *scalars,
+uint64_t mch_key_type(const uint64_t record[19], const uint64_t *slots, size_t slots_length, const uint64_t *scalars,
     size_t scalars_length, const uint64_t *list, size_t list_length, const uint64_t *directory,
     size_t directory_length, const uint64_t *cells, size_t cells_length, uint64_t word, mirchollan_answer *answer);
-uint64_t mch_value_type(const uint64_t record[18], const uint64_t *slots, size_t slots_length,
+uint64_t mch_value_type(const uint64_t record[19], const uint64_t *slots, size_t slots_length,
     const uint64_t *scalars, size_t scalars_length, const uint64_t *list, size_t list_length,
     const uint64_t *directory, size_t directory_length, const uint64_t *cells, size_t cells_length, uint64_t word,
     mirchollan_answer *answer);
-uint64_t mch_map_epoch(const uint64_t record[18], const uint64_t *slots, size_t slots_length, const uint64_t *scalars,
+uint64_t mch_map_epoch(const uint64_t record[19], const uint64_t *slots, size_t slots_length, const uint64_t *scalars,
     size_t scalars_length, const uint64_t *list, size_t list_length, const uint64_t *directory,
     size_t directory_length, const uint64_t *cells, size_t cells_length, uint64_t word, mirchollan_answer *answer);
-uint64_t mch_next_sequence(const uint64_t record[18], const uint64_t *slots, size_t slots_length,
+uint64_t mch_next_sequence(const uint64_t record[19], const uint64_t *slots, size_t slots_length,
     const uint64_t *scalars, size_t scalars_length, const uint64_t *list, size_t list_length,
     const uint64_t *directory, size_t directory_length, const uint64_t *cells, size_t cells_length, uint64_t word,
     mirchollan_answer *answer);
-uint64_t mch_entry_capacity(const uint64_t record[18], const uint64_t *slots, size_t slots_length,
+uint64_t mch_entry_capacity(const uint64_t record[19], const uint64_t *slots, size_t slots_length,
     const uint64_t *scalars, size_t scalars_length, const uint64_t *list, size_t list_length,
     const uint64_t *directory, size_t directory_length, const uint64_t *cells, size_t cells_length, uint64_t word,
     mirchollan_answer *answer);
-uint64_t mch_index_length(const uint64_t record[18], const uint64_t *slots, size_t slots_length,
+uint64_t mch_index_length(const uint64_t record[19], const uint64_t *slots, size_t slots_length,
     const uint64_t *scalars, size_t scalars_length, const uint64_t *list, size_t list_length,
     const uint64_t *directory, size_t directory_length, const uint64_t *cells, size_t cells_length, uint64_t word,
     mirchollan_answer *answer);
-uint64_t mch_growth_bytes(const uint64_t record[18], const uint64_t *slots, size_t slots_length,
+uint64_t mch_growth_bytes(const uint64_t record[19], const uint64_t *slots, size_t slots_length,
     const uint64_t *scalars, size_t scalars_length, const uint64_t *list, size_t list_length,
     const uint64_t *directory, size_t directory_length, const uint64_t *cells, size_t cells_length, uint64_t word,
     uint64_t key, mirchollan_answer *answer);
-uint64_t mch_iter_next(const uint64_t record[18], const uint64_t *slots, size_t slots_length, uint64_t *scalars,
+uint64_t mch_iter_next(const uint64_t record[19], const uint64_t *slots, size_t slots_length, uint64_t *scalars,
     size_t scalars_length, const uint64_t *list, size_t list_length, const uint64_t *directory,
     size_t directory_length, const uint64_t *cells, size_t cells_length, uint64_t word, mirchollan_answer *answer);
-uint64_t mch_iter_key(const uint64_t record[18], const uint64_t *slots, size_t slots_length, const uint64_t *scalars,
+uint64_t mch_iter_key(const uint64_t record[19], const uint64_t *slots, size_t slots_length, const uint64_t *scalars,
     size_t scalars_length, const uint64_t *list, size_t list_length, const uint64_t *directory,
     size_t directory_length, const uint64_t *cells, size_t cells_length, uint64_t word, mirchollan_answer *answer);
-uint64_t mch_iter_source(const uint64_t record[18], const uint64_t *slots, size_t slots_length,
+uint64_t mch_iter_source(const uint64_t record[19], const uint64_t *slots, size_t slots_length,
     const uint64_t *scalars, size_t scalars_length, const uint64_t *list, size_t list_length,
     const uint64_t *directory, size_t directory_length, const uint64_t *cells, size_t cells_length, uint64_t word,
     mirchollan_answer *answer);
-uint64_t mch_iter_key_type(const uint64_t record[18], const uint64_t *slots, size_t slots_length,
+uint64_t mch_iter_key_type(const uint64_t record[19], const uint64_t *slots, size_t slots_length,
     const uint64_t *scalars, size_t scalars_length, const uint64_t *list, size_t list_length,
     const uint64_t *directory, size_t directory_length, const uint64_t *cells, size_t cells_length, uint64_t word,
     mirchollan_answer *answer);
-uint64_t mch_iter_ended(const uint64_t record[18], const uint64_t *slots, size_t slots_length,
+uint64_t mch_iter_ended(const uint64_t record[19], const uint64_t *slots, size_t slots_length,
     const uint64_t *scalars, size_t scalars_length, const uint64_t *list, size_t list_length,
     const uint64_t *directory, size_t directory_length, const uint64_t *cells, size_t cells_length, uint64_t word,
     mirchollan_answer *answer);
-uint64_t mch_iter_cursor(const uint64_t record[18], const uint64_t *slots, size_t slots_length,
+uint64_t mch_iter_cursor(const uint64_t record[19], const uint64_t *slots, size_t slots_length,
     const uint64_t *scalars, size_t scalars_length, const uint64_t *list, size_t list_length,
     const uint64_t *directory, size_t directory_length, const uint64_t *cells, size_t cells_length, uint64_t word,
     mirchollan_answer *answer);

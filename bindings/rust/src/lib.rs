@@ -220,7 +220,7 @@ impl Word {
 
 /// A heap, its record and its buffers.
 pub struct Heap {
-    record: [u64; 18],
+    record: [u64; 19],
     slots: Vec<u64>,
     scalars: Vec<u64>,
     list: Vec<u64>,
@@ -283,7 +283,7 @@ impl Heap {
         // Sizes beyond the maximum are refused whatever the buffers are.
         let n = slots.min(MOST_SLOTS) as usize;
         let mut h = Heap {
-            record: [0; 18],
+            record: [0; 19],
             slots: vec![0; 8 * n],
             scalars: vec![0; 8 * n],
             list: vec![0; n],

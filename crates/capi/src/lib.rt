@@ -1,8 +1,6 @@
 // The library for C and Rust: every call as a function on words and slices. The heap's record is
-// kept in eighteen words: the account (used, since, threshold, limit), the five weights, and size,
-// fresh, free, top, entries, taken, present, collections, freed. A function returns the number of
-// the refusal, 0 where the call is accepted; the words answered go into `answer`, zeros where there
-// are none.
+// kept in nineteen words (see crate record). A function returns the number of the refusal, 0 where
+// the call is accepted; the words answered go into `answer`, zeros where there are none.
 use allocation::Coroutine;
 use commands::Shown;
 use heap::Heap;
@@ -92,7 +90,7 @@ fn save_cursor(words: &mut [u64; 4], s: Shown)
 }
 
 // Keeps the record of a heap that was opened.
-fn settle(words: &mut [u64; 18], opened: Opened) -> u64
+fn settle(words: &mut [u64; 19], opened: Opened) -> u64
     ensures { λ r. ⌜ Settles opened (now (words .entry)) r (now (words .exit)) ⌝ }
 {
     match opened {
@@ -171,7 +169,7 @@ pub extern "C" fn mch_same_words(a: u64, b: u64, answer: &mut [u64; 6]) -> u64
 // they were.
 #[no_mangle]
 pub extern "C" fn mch_open(
-    heap: &mut [u64; 18],
+    heap: &mut [u64; 19],
     size: u64,
     limit: u64,
     weights: &[u64; 5],
@@ -208,7 +206,7 @@ pub extern "C" fn mch_open(
 // A charge of `bytes`, without an object.
 #[no_mangle]
 pub extern "C" fn mch_charge(
-    heap: &mut [u64; 18],
+    heap: &mut [u64; 19],
     slots: &[u64],
     scalars: &[u64],
     list: &[u64],
@@ -231,7 +229,7 @@ pub extern "C" fn mch_charge(
 // Whether a charge of `bytes` would be accepted.
 #[no_mangle]
 pub extern "C" fn mch_fits(
-    heap: &[u64; 18],
+    heap: &[u64; 19],
     slots: &[u64],
     scalars: &[u64],
     list: &[u64],
@@ -251,7 +249,7 @@ pub extern "C" fn mch_fits(
 // Whether a collection is due before `extra` bytes more.
 #[no_mangle]
 pub extern "C" fn mch_wants_gc(
-    heap: &[u64; 18],
+    heap: &[u64; 19],
     slots: &[u64],
     scalars: &[u64],
     list: &[u64],
@@ -271,7 +269,7 @@ pub extern "C" fn mch_wants_gc(
 // How many collections there have been.
 #[no_mangle]
 pub extern "C" fn mch_collection_count(
-    heap: &[u64; 18],
+    heap: &[u64; 19],
     slots: &[u64],
     scalars: &[u64],
     list: &[u64],
@@ -290,7 +288,7 @@ pub extern "C" fn mch_collection_count(
 // How many objects the collections have freed.
 #[no_mangle]
 pub extern "C" fn mch_freed_count(
-    heap: &[u64; 18],
+    heap: &[u64; 19],
     slots: &[u64],
     scalars: &[u64],
     list: &[u64],
@@ -309,7 +307,7 @@ pub extern "C" fn mch_freed_count(
 // The bytes charged and not freed.
 #[no_mangle]
 pub extern "C" fn mch_used_bytes(
-    heap: &[u64; 18],
+    heap: &[u64; 19],
     slots: &[u64],
     scalars: &[u64],
     list: &[u64],
@@ -328,7 +326,7 @@ pub extern "C" fn mch_used_bytes(
 // How many objects are present.
 #[no_mangle]
 pub extern "C" fn mch_present_count(
-    heap: &[u64; 18],
+    heap: &[u64; 19],
     slots: &[u64],
     scalars: &[u64],
     list: &[u64],
@@ -347,7 +345,7 @@ pub extern "C" fn mch_present_count(
 // The cells of the objects present.
 #[no_mangle]
 pub extern "C" fn mch_cells_in_use(
-    heap: &[u64; 18],
+    heap: &[u64; 19],
     slots: &[u64],
     scalars: &[u64],
     list: &[u64],
@@ -366,7 +364,7 @@ pub extern "C" fn mch_cells_in_use(
 // A collection from these roots: answers the objects freed and the coroutines listed in `places`.
 #[no_mangle]
 pub extern "C" fn mch_collect(
-    heap: &mut [u64; 18],
+    heap: &mut [u64; 19],
     slots: &mut [u64],
     scalars: &mut [u64],
     list: &mut [u64],
@@ -413,7 +411,7 @@ pub extern "C" fn mch_collect(
 // A string of these bytes.
 #[no_mangle]
 pub extern "C" fn mch_new_string(
-    heap: &mut [u64; 18],
+    heap: &mut [u64; 19],
     slots: &mut [u64],
     scalars: &[u64],
     list: &[u64],
@@ -436,7 +434,7 @@ pub extern "C" fn mch_new_string(
 // An integer object.
 #[no_mangle]
 pub extern "C" fn mch_new_integer(
-    heap: &mut [u64; 18],
+    heap: &mut [u64; 19],
     slots: &mut [u64],
     scalars: &[u64],
     list: &[u64],
@@ -459,7 +457,7 @@ pub extern "C" fn mch_new_integer(
 // A cell of type `t` with the word `w`.
 #[no_mangle]
 pub extern "C" fn mch_new_cell(
-    heap: &mut [u64; 18],
+    heap: &mut [u64; 19],
     slots: &mut [u64],
     scalars: &[u64],
     list: &[u64],
@@ -483,7 +481,7 @@ pub extern "C" fn mch_new_cell(
 // An error of any 16-bit kind, with the word `w`.
 #[no_mangle]
 pub extern "C" fn mch_new_error(
-    heap: &mut [u64; 18],
+    heap: &mut [u64; 19],
     slots: &mut [u64],
     scalars: &[u64],
     list: &[u64],
@@ -507,7 +505,7 @@ pub extern "C" fn mch_new_error(
 // A box with the word `w`.
 #[no_mangle]
 pub extern "C" fn mch_new_box(
-    heap: &mut [u64; 18],
+    heap: &mut [u64; 19],
     slots: &mut [u64],
     scalars: &[u64],
     list: &[u64],
@@ -530,7 +528,7 @@ pub extern "C" fn mch_new_box(
 // An array of type `t` and so many nil items.
 #[no_mangle]
 pub extern "C" fn mch_new_array(
-    heap: &mut [u64; 18],
+    heap: &mut [u64; 19],
     slots: &mut [u64],
     scalars: &[u64],
     list: &[u64],
@@ -554,7 +552,7 @@ pub extern "C" fn mch_new_array(
 // A map without entries, of these types of keys and values.
 #[no_mangle]
 pub extern "C" fn mch_new_map(
-    heap: &mut [u64; 18],
+    heap: &mut [u64; 19],
     slots: &mut [u64],
     scalars: &mut [u64],
     list: &[u64],
@@ -578,7 +576,7 @@ pub extern "C" fn mch_new_map(
 // A struct of type `number` with these fields.
 #[no_mangle]
 pub extern "C" fn mch_new_struct(
-    heap: &mut [u64; 18],
+    heap: &mut [u64; 19],
     slots: &mut [u64],
     scalars: &[u64],
     list: &[u64],
@@ -602,7 +600,7 @@ pub extern "C" fn mch_new_struct(
 // A function with these captures; an import where `import` is not 0.
 #[no_mangle]
 pub extern "C" fn mch_new_function(
-    heap: &mut [u64; 18],
+    heap: &mut [u64; 19],
     slots: &mut [u64],
     scalars: &[u64],
     list: &[u64],
@@ -637,7 +635,7 @@ pub extern "C" fn mch_new_function(
 // An iterator over the array or map `source`.
 #[no_mangle]
 pub extern "C" fn mch_new_iter(
-    heap: &mut [u64; 18],
+    heap: &mut [u64; 19],
     slots: &mut [u64],
     scalars: &mut [u64],
     list: &[u64],
@@ -661,7 +659,7 @@ pub extern "C" fn mch_new_iter(
 // function, counter, base, closure.
 #[no_mangle]
 pub extern "C" fn mch_new_coroutine(
-    heap: &mut [u64; 18],
+    heap: &mut [u64; 19],
     slots: &mut [u64],
     scalars: &mut [u64],
     list: &[u64],
@@ -699,7 +697,7 @@ pub extern "C" fn mch_new_coroutine(
 // The row of the object that a word reaches, 0 for none.
 #[no_mangle]
 pub extern "C" fn mch_get(
-    heap: &[u64; 18],
+    heap: &[u64; 19],
     slots: &[u64],
     scalars: &[u64],
     list: &[u64],
@@ -719,7 +717,7 @@ pub extern "C" fn mch_get(
 // A word seen through a box.
 #[no_mangle]
 pub extern "C" fn mch_deref(
-    heap: &[u64; 18],
+    heap: &[u64; 19],
     slots: &[u64],
     scalars: &[u64],
     list: &[u64],
@@ -739,7 +737,7 @@ pub extern "C" fn mch_deref(
 // The number of a word's kind.
 #[no_mangle]
 pub extern "C" fn mch_kind_of(
-    heap: &[u64; 18],
+    heap: &[u64; 19],
     slots: &[u64],
     scalars: &[u64],
     list: &[u64],
@@ -759,7 +757,7 @@ pub extern "C" fn mch_kind_of(
 // The length of a string in bytes.
 #[no_mangle]
 pub extern "C" fn mch_string_length(
-    heap: &[u64; 18],
+    heap: &[u64; 19],
     slots: &[u64],
     scalars: &[u64],
     list: &[u64],
@@ -779,7 +777,7 @@ pub extern "C" fn mch_string_length(
 // A string's bytes, in the buffer's first places; 8 where the buffer is shorter.
 #[no_mangle]
 pub extern "C" fn mch_read_string(
-    heap: &[u64; 18],
+    heap: &[u64; 19],
     slots: &[u64],
     scalars: &[u64],
     list: &[u64],
@@ -800,7 +798,7 @@ pub extern "C" fn mch_read_string(
 // An integer object's number.
 #[no_mangle]
 pub extern "C" fn mch_read_integer(
-    heap: &[u64; 18],
+    heap: &[u64; 19],
     slots: &[u64],
     scalars: &[u64],
     list: &[u64],
@@ -820,7 +818,7 @@ pub extern "C" fn mch_read_integer(
 // A cell's word.
 #[no_mangle]
 pub extern "C" fn mch_read_cell(
-    heap: &[u64; 18],
+    heap: &[u64; 19],
     slots: &[u64],
     scalars: &[u64],
     list: &[u64],
@@ -840,7 +838,7 @@ pub extern "C" fn mch_read_cell(
 // A cell's type.
 #[no_mangle]
 pub extern "C" fn mch_cell_type(
-    heap: &[u64; 18],
+    heap: &[u64; 19],
     slots: &[u64],
     scalars: &[u64],
     list: &[u64],
@@ -860,7 +858,7 @@ pub extern "C" fn mch_cell_type(
 // An error's kind.
 #[no_mangle]
 pub extern "C" fn mch_error_kind(
-    heap: &[u64; 18],
+    heap: &[u64; 19],
     slots: &[u64],
     scalars: &[u64],
     list: &[u64],
@@ -880,7 +878,7 @@ pub extern "C" fn mch_error_kind(
 // An error's word.
 #[no_mangle]
 pub extern "C" fn mch_error_word(
-    heap: &[u64; 18],
+    heap: &[u64; 19],
     slots: &[u64],
     scalars: &[u64],
     list: &[u64],
@@ -900,7 +898,7 @@ pub extern "C" fn mch_error_word(
 // A box's word.
 #[no_mangle]
 pub extern "C" fn mch_read_box(
-    heap: &[u64; 18],
+    heap: &[u64; 19],
     slots: &[u64],
     scalars: &[u64],
     list: &[u64],
@@ -920,7 +918,7 @@ pub extern "C" fn mch_read_box(
 // The type of an array's items.
 #[no_mangle]
 pub extern "C" fn mch_array_type(
-    heap: &[u64; 18],
+    heap: &[u64; 19],
     slots: &[u64],
     scalars: &[u64],
     list: &[u64],
@@ -940,7 +938,7 @@ pub extern "C" fn mch_array_type(
 // The length of an array.
 #[no_mangle]
 pub extern "C" fn mch_array_length(
-    heap: &[u64; 18],
+    heap: &[u64; 19],
     slots: &[u64],
     scalars: &[u64],
     list: &[u64],
@@ -960,7 +958,7 @@ pub extern "C" fn mch_array_length(
 // The capacity of an array.
 #[no_mangle]
 pub extern "C" fn mch_array_capacity(
-    heap: &[u64; 18],
+    heap: &[u64; 19],
     slots: &[u64],
     scalars: &[u64],
     list: &[u64],
@@ -980,7 +978,7 @@ pub extern "C" fn mch_array_capacity(
 // Item `i` of an array, as it was stored.
 #[no_mangle]
 pub extern "C" fn mch_read_item(
-    heap: &[u64; 18],
+    heap: &[u64; 19],
     slots: &[u64],
     scalars: &[u64],
     list: &[u64],
@@ -1001,7 +999,7 @@ pub extern "C" fn mch_read_item(
 // A struct's type.
 #[no_mangle]
 pub extern "C" fn mch_struct_number(
-    heap: &[u64; 18],
+    heap: &[u64; 19],
     slots: &[u64],
     scalars: &[u64],
     list: &[u64],
@@ -1021,7 +1019,7 @@ pub extern "C" fn mch_struct_number(
 // How many fields a struct has.
 #[no_mangle]
 pub extern "C" fn mch_field_count(
-    heap: &[u64; 18],
+    heap: &[u64; 19],
     slots: &[u64],
     scalars: &[u64],
     list: &[u64],
@@ -1041,7 +1039,7 @@ pub extern "C" fn mch_field_count(
 // Field `i` of a struct.
 #[no_mangle]
 pub extern "C" fn mch_read_field(
-    heap: &[u64; 18],
+    heap: &[u64; 19],
     slots: &[u64],
     scalars: &[u64],
     list: &[u64],
@@ -1062,7 +1060,7 @@ pub extern "C" fn mch_read_field(
 // Whether a function is an import.
 #[no_mangle]
 pub extern "C" fn mch_is_import(
-    heap: &[u64; 18],
+    heap: &[u64; 19],
     slots: &[u64],
     scalars: &[u64],
     list: &[u64],
@@ -1082,7 +1080,7 @@ pub extern "C" fn mch_is_import(
 // A function's number.
 #[no_mangle]
 pub extern "C" fn mch_function_number(
-    heap: &[u64; 18],
+    heap: &[u64; 19],
     slots: &[u64],
     scalars: &[u64],
     list: &[u64],
@@ -1102,7 +1100,7 @@ pub extern "C" fn mch_function_number(
 // How many captures a function has.
 #[no_mangle]
 pub extern "C" fn mch_capture_count(
-    heap: &[u64; 18],
+    heap: &[u64; 19],
     slots: &[u64],
     scalars: &[u64],
     list: &[u64],
@@ -1122,7 +1120,7 @@ pub extern "C" fn mch_capture_count(
 // Capture `i` of a function.
 #[no_mangle]
 pub extern "C" fn mch_read_capture(
-    heap: &[u64; 18],
+    heap: &[u64; 19],
     slots: &[u64],
     scalars: &[u64],
     list: &[u64],
@@ -1143,7 +1141,7 @@ pub extern "C" fn mch_read_capture(
 // A coroutine's state.
 #[no_mangle]
 pub extern "C" fn mch_read_state(
-    heap: &[u64; 18],
+    heap: &[u64; 19],
     slots: &[u64],
     scalars: &[u64],
     list: &[u64],
@@ -1163,7 +1161,7 @@ pub extern "C" fn mch_read_state(
 // A coroutine's payload.
 #[no_mangle]
 pub extern "C" fn mch_read_payload(
-    heap: &[u64; 18],
+    heap: &[u64; 19],
     slots: &[u64],
     scalars: &[u64],
     list: &[u64],
@@ -1183,7 +1181,7 @@ pub extern "C" fn mch_read_payload(
 // A coroutine's key.
 #[no_mangle]
 pub extern "C" fn mch_read_key(
-    heap: &[u64; 18],
+    heap: &[u64; 19],
     slots: &[u64],
     scalars: &[u64],
     list: &[u64],
@@ -1203,7 +1201,7 @@ pub extern "C" fn mch_read_key(
 // A coroutine's result.
 #[no_mangle]
 pub extern "C" fn mch_read_result(
-    heap: &[u64; 18],
+    heap: &[u64; 19],
     slots: &[u64],
     scalars: &[u64],
     list: &[u64],
@@ -1223,7 +1221,7 @@ pub extern "C" fn mch_read_result(
 // A coroutine's signal.
 #[no_mangle]
 pub extern "C" fn mch_read_signal(
-    heap: &[u64; 18],
+    heap: &[u64; 19],
     slots: &[u64],
     scalars: &[u64],
     list: &[u64],
@@ -1243,7 +1241,7 @@ pub extern "C" fn mch_read_signal(
 // A coroutine's sequence number.
 #[no_mangle]
 pub extern "C" fn mch_coroutine_sequence(
-    heap: &[u64; 18],
+    heap: &[u64; 19],
     slots: &[u64],
     scalars: &[u64],
     list: &[u64],
@@ -1263,7 +1261,7 @@ pub extern "C" fn mch_coroutine_sequence(
 // Whether a coroutine is finalized.
 #[no_mangle]
 pub extern "C" fn mch_coroutine_finalized(
-    heap: &[u64; 18],
+    heap: &[u64; 19],
     slots: &[u64],
     scalars: &[u64],
     list: &[u64],
@@ -1283,7 +1281,7 @@ pub extern "C" fn mch_coroutine_finalized(
 // How many registers a coroutine has.
 #[no_mangle]
 pub extern "C" fn mch_register_count(
-    heap: &[u64; 18],
+    heap: &[u64; 19],
     slots: &[u64],
     scalars: &[u64],
     list: &[u64],
@@ -1303,7 +1301,7 @@ pub extern "C" fn mch_register_count(
 // How many frames a coroutine has.
 #[no_mangle]
 pub extern "C" fn mch_frame_count(
-    heap: &[u64; 18],
+    heap: &[u64; 19],
     slots: &[u64],
     scalars: &[u64],
     list: &[u64],
@@ -1323,7 +1321,7 @@ pub extern "C" fn mch_frame_count(
 // Frame `i` of a coroutine.
 #[no_mangle]
 pub extern "C" fn mch_read_frame(
-    heap: &[u64; 18],
+    heap: &[u64; 19],
     slots: &[u64],
     scalars: &[u64],
     list: &[u64],
@@ -1344,7 +1342,7 @@ pub extern "C" fn mch_read_frame(
 // Register `i` of a coroutine.
 #[no_mangle]
 pub extern "C" fn mch_read_register(
-    heap: &[u64; 18],
+    heap: &[u64; 19],
     slots: &[u64],
     scalars: &[u64],
     list: &[u64],
@@ -1367,7 +1365,7 @@ pub extern "C" fn mch_read_register(
 // A new word for a cell.
 #[no_mangle]
 pub extern "C" fn mch_store_cell(
-    heap: &[u64; 18],
+    heap: &[u64; 19],
     slots: &mut [u64],
     scalars: &[u64],
     list: &[u64],
@@ -1388,7 +1386,7 @@ pub extern "C" fn mch_store_cell(
 // A new word for a box.
 #[no_mangle]
 pub extern "C" fn mch_store_box(
-    heap: &[u64; 18],
+    heap: &[u64; 19],
     slots: &mut [u64],
     scalars: &[u64],
     list: &[u64],
@@ -1409,7 +1407,7 @@ pub extern "C" fn mch_store_box(
 // A new item at `i`; outside the length nothing changes.
 #[no_mangle]
 pub extern "C" fn mch_store_item(
-    heap: &[u64; 18],
+    heap: &[u64; 19],
     slots: &[u64],
     scalars: &[u64],
     list: &[u64],
@@ -1431,7 +1429,7 @@ pub extern "C" fn mch_store_item(
 // An item behind the last of an array.
 #[no_mangle]
 pub extern "C" fn mch_push(
-    heap: &mut [u64; 18],
+    heap: &mut [u64; 19],
     slots: &mut [u64],
     scalars: &[u64],
     list: &[u64],
@@ -1455,7 +1453,7 @@ pub extern "C" fn mch_push(
 // The last item of an array, taken off.
 #[no_mangle]
 pub extern "C" fn mch_pop(
-    heap: &[u64; 18],
+    heap: &[u64; 19],
     slots: &mut [u64],
     scalars: &[u64],
     list: &[u64],
@@ -1475,7 +1473,7 @@ pub extern "C" fn mch_pop(
 // A new word for field `i` of a struct.
 #[no_mangle]
 pub extern "C" fn mch_store_field(
-    heap: &[u64; 18],
+    heap: &[u64; 19],
     slots: &[u64],
     scalars: &[u64],
     list: &[u64],
@@ -1497,7 +1495,7 @@ pub extern "C" fn mch_store_field(
 // A new word for capture `i` of a function.
 #[no_mangle]
 pub extern "C" fn mch_store_capture(
-    heap: &[u64; 18],
+    heap: &[u64; 19],
     slots: &[u64],
     scalars: &[u64],
     list: &[u64],
@@ -1519,7 +1517,7 @@ pub extern "C" fn mch_store_capture(
 // A new word for register `i` of a coroutine.
 #[no_mangle]
 pub extern "C" fn mch_store_register(
-    heap: &[u64; 18],
+    heap: &[u64; 19],
     slots: &[u64],
     scalars: &[u64],
     list: &[u64],
@@ -1541,7 +1539,7 @@ pub extern "C" fn mch_store_register(
 // A new payload for a coroutine.
 #[no_mangle]
 pub extern "C" fn mch_store_payload(
-    heap: &[u64; 18],
+    heap: &[u64; 19],
     slots: &[u64],
     scalars: &mut [u64],
     list: &[u64],
@@ -1562,7 +1560,7 @@ pub extern "C" fn mch_store_payload(
 // A new key for a coroutine.
 #[no_mangle]
 pub extern "C" fn mch_store_key(
-    heap: &[u64; 18],
+    heap: &[u64; 19],
     slots: &[u64],
     scalars: &mut [u64],
     list: &[u64],
@@ -1583,7 +1581,7 @@ pub extern "C" fn mch_store_key(
 // A new result for a coroutine.
 #[no_mangle]
 pub extern "C" fn mch_store_result(
-    heap: &[u64; 18],
+    heap: &[u64; 19],
     slots: &[u64],
     scalars: &mut [u64],
     list: &[u64],
@@ -1604,7 +1602,7 @@ pub extern "C" fn mch_store_result(
 // A new signal for a coroutine.
 #[no_mangle]
 pub extern "C" fn mch_store_signal(
-    heap: &[u64; 18],
+    heap: &[u64; 19],
     slots: &[u64],
     scalars: &mut [u64],
     list: &[u64],
@@ -1625,7 +1623,7 @@ pub extern "C" fn mch_store_signal(
 // A new state for a coroutine.
 #[no_mangle]
 pub extern "C" fn mch_set_state(
-    heap: &[u64; 18],
+    heap: &[u64; 19],
     slots: &mut [u64],
     scalars: &[u64],
     list: &[u64],
@@ -1648,7 +1646,7 @@ pub extern "C" fn mch_set_state(
 // The value of a key: overwritten where the key is found, else an entry is added.
 #[no_mangle]
 pub extern "C" fn mch_put(
-    heap: &mut [u64; 18],
+    heap: &mut [u64; 19],
     slots: &mut [u64],
     scalars: &mut [u64],
     list: &[u64],
@@ -1685,7 +1683,7 @@ pub extern "C" fn mch_put(
 // An entry added, whatever is there.
 #[no_mangle]
 pub extern "C" fn mch_insert_entry(
-    heap: &mut [u64; 18],
+    heap: &mut [u64; 19],
     slots: &mut [u64],
     scalars: &mut [u64],
     list: &[u64],
@@ -1722,7 +1720,7 @@ pub extern "C" fn mch_insert_entry(
 // The position of a key.
 #[no_mangle]
 pub extern "C" fn mch_find(
-    heap: &[u64; 18],
+    heap: &[u64; 19],
     slots: &[u64],
     scalars: &[u64],
     list: &[u64],
@@ -1744,7 +1742,7 @@ pub extern "C" fn mch_find(
 // The entry of a key removed.
 #[no_mangle]
 pub extern "C" fn mch_remove(
-    heap: &mut [u64; 18],
+    heap: &mut [u64; 19],
     slots: &mut [u64],
     scalars: &mut [u64],
     list: &[u64],
@@ -1769,7 +1767,7 @@ pub extern "C" fn mch_remove(
 // The entry at a position removed.
 #[no_mangle]
 pub extern "C" fn mch_remove_at(
-    heap: &mut [u64; 18],
+    heap: &mut [u64; 19],
     slots: &mut [u64],
     scalars: &mut [u64],
     list: &[u64],
@@ -1793,7 +1791,7 @@ pub extern "C" fn mch_remove_at(
 // The entry at a position, live or dead.
 #[no_mangle]
 pub extern "C" fn mch_read_entry(
-    heap: &[u64; 18],
+    heap: &[u64; 19],
     slots: &[u64],
     scalars: &[u64],
     list: &[u64],
@@ -1814,7 +1812,7 @@ pub extern "C" fn mch_read_entry(
 // A new value at a position; outside nothing changes.
 #[no_mangle]
 pub extern "C" fn mch_set_value(
-    heap: &[u64; 18],
+    heap: &[u64; 19],
     slots: &[u64],
     scalars: &[u64],
     list: &[u64],
@@ -1836,7 +1834,7 @@ pub extern "C" fn mch_set_value(
 // The integer key `k` noted.
 #[no_mangle]
 pub extern "C" fn mch_note(
-    heap: &[u64; 18],
+    heap: &[u64; 19],
     slots: &mut [u64],
     scalars: &mut [u64],
     list: &[u64],
@@ -1857,7 +1855,7 @@ pub extern "C" fn mch_note(
 // The integer key after the greatest noted one.
 #[no_mangle]
 pub extern "C" fn mch_next_key(
-    heap: &[u64; 18],
+    heap: &[u64; 19],
     slots: &[u64],
     scalars: &[u64],
     list: &[u64],
@@ -1877,7 +1875,7 @@ pub extern "C" fn mch_next_key(
 // The greatest noted key.
 #[no_mangle]
 pub extern "C" fn mch_noted_key(
-    heap: &[u64; 18],
+    heap: &[u64; 19],
     slots: &[u64],
     scalars: &[u64],
     list: &[u64],
@@ -1898,7 +1896,7 @@ pub extern "C" fn mch_noted_key(
 // number, position, epoch; a refusal leaves it as it was.
 #[no_mangle]
 pub extern "C" fn mch_next(
-    heap: &[u64; 18],
+    heap: &[u64; 19],
     slots: &[u64],
     scalars: &[u64],
     list: &[u64],
@@ -1923,7 +1921,7 @@ pub extern "C" fn mch_next(
 // How many live entries a map has.
 #[no_mangle]
 pub extern "C" fn mch_live_count(
-    heap: &[u64; 18],
+    heap: &[u64; 19],
     slots: &[u64],
     scalars: &[u64],
     list: &[u64],
@@ -1943,7 +1941,7 @@ pub extern "C" fn mch_live_count(
 // How many places a map has, dead ones included.
 #[no_mangle]
 pub extern "C" fn mch_place_count(
-    heap: &[u64; 18],
+    heap: &[u64; 19],
     slots: &[u64],
     scalars: &[u64],
     list: &[u64],
@@ -1963,7 +1961,7 @@ pub extern "C" fn mch_place_count(
 // Whether a map is hashed.
 #[no_mangle]
 pub extern "C" fn mch_is_hashed(
-    heap: &[u64; 18],
+    heap: &[u64; 19],
     slots: &[u64],
     scalars: &[u64],
     list: &[u64],
@@ -1983,7 +1981,7 @@ pub extern "C" fn mch_is_hashed(
 // The type of a map's keys.
 #[no_mangle]
 pub extern "C" fn mch_key_type(
-    heap: &[u64; 18],
+    heap: &[u64; 19],
     slots: &[u64],
     scalars: &[u64],
     list: &[u64],
@@ -2003,7 +2001,7 @@ pub extern "C" fn mch_key_type(
 // The type of a map's values.
 #[no_mangle]
 pub extern "C" fn mch_value_type(
-    heap: &[u64; 18],
+    heap: &[u64; 19],
     slots: &[u64],
     scalars: &[u64],
     list: &[u64],
@@ -2023,7 +2021,7 @@ pub extern "C" fn mch_value_type(
 // How often a map was compacted, in 32 bits.
 #[no_mangle]
 pub extern "C" fn mch_map_epoch(
-    heap: &[u64; 18],
+    heap: &[u64; 19],
     slots: &[u64],
     scalars: &[u64],
     list: &[u64],
@@ -2043,7 +2041,7 @@ pub extern "C" fn mch_map_epoch(
 // The next entry's sequence number.
 #[no_mangle]
 pub extern "C" fn mch_next_sequence(
-    heap: &[u64; 18],
+    heap: &[u64; 19],
     slots: &[u64],
     scalars: &[u64],
     list: &[u64],
@@ -2063,7 +2061,7 @@ pub extern "C" fn mch_next_sequence(
 // The capacity of a map's entry list.
 #[no_mangle]
 pub extern "C" fn mch_entry_capacity(
-    heap: &[u64; 18],
+    heap: &[u64; 19],
     slots: &[u64],
     scalars: &[u64],
     list: &[u64],
@@ -2083,7 +2081,7 @@ pub extern "C" fn mch_entry_capacity(
 // The length of a map's index.
 #[no_mangle]
 pub extern "C" fn mch_index_length(
-    heap: &[u64; 18],
+    heap: &[u64; 19],
     slots: &[u64],
     scalars: &[u64],
     list: &[u64],
@@ -2103,7 +2101,7 @@ pub extern "C" fn mch_index_length(
 // The bytes that an insertion of this key would be charged.
 #[no_mangle]
 pub extern "C" fn mch_growth_bytes(
-    heap: &[u64; 18],
+    heap: &[u64; 19],
     slots: &[u64],
     scalars: &[u64],
     list: &[u64],
@@ -2124,7 +2122,7 @@ pub extern "C" fn mch_growth_bytes(
 // The next item of an iterator, or its end.
 #[no_mangle]
 pub extern "C" fn mch_iter_next(
-    heap: &[u64; 18],
+    heap: &[u64; 19],
     slots: &[u64],
     scalars: &mut [u64],
     list: &[u64],
@@ -2144,7 +2142,7 @@ pub extern "C" fn mch_iter_next(
 // The key of the item visited last.
 #[no_mangle]
 pub extern "C" fn mch_iter_key(
-    heap: &[u64; 18],
+    heap: &[u64; 19],
     slots: &[u64],
     scalars: &[u64],
     list: &[u64],
@@ -2164,7 +2162,7 @@ pub extern "C" fn mch_iter_key(
 // The word of the array or map that an iterator goes over.
 #[no_mangle]
 pub extern "C" fn mch_iter_source(
-    heap: &[u64; 18],
+    heap: &[u64; 19],
     slots: &[u64],
     scalars: &[u64],
     list: &[u64],
@@ -2184,7 +2182,7 @@ pub extern "C" fn mch_iter_source(
 // The type of an iterator's keys.
 #[no_mangle]
 pub extern "C" fn mch_iter_key_type(
-    heap: &[u64; 18],
+    heap: &[u64; 19],
     slots: &[u64],
     scalars: &[u64],
     list: &[u64],
@@ -2204,7 +2202,7 @@ pub extern "C" fn mch_iter_key_type(
 // Whether an iterator has ended.
 #[no_mangle]
 pub extern "C" fn mch_iter_ended(
-    heap: &[u64; 18],
+    heap: &[u64; 19],
     slots: &[u64],
     scalars: &[u64],
     list: &[u64],
@@ -2224,7 +2222,7 @@ pub extern "C" fn mch_iter_ended(
 // An iterator's cursor.
 #[no_mangle]
 pub extern "C" fn mch_iter_cursor(
-    heap: &[u64; 18],
+    heap: &[u64; 19],
     slots: &[u64],
     scalars: &[u64],
     list: &[u64],

@@ -28,7 +28,7 @@ use Rattle.model.specs.Model.{Model, viewOf, weightIn, weightsKept}
 use Rattle.model.specs.Kept.{finalizable, kept, settled, swept}
 use Rattle.heap.specs.Kinds.{contentOf, roomOf, objectOf}
 use Rattle.heap.specs.State.{State, rawOf, moreOf, slotOf, slotFrom, modelOf, unused}
-use Rattle.heap.specs.Good.{Good, SlotGood, filled}
+use Rattle.heap.specs.Good.{Good, SlotGood, coroutineOf, filled}
 use Rattle.heap.proofs.KindLaws.{object-none, object-some}
 use Rattle.heap.proofs.SlotLaws.{slot-used, slot-unused, raw-length}
 use Rattle.marking.specs.Reach.{Marked}
@@ -381,6 +381,7 @@ module _ (l : Layout) (t : State) (g : Good t) (roots : List ℕ) where
       cells-fit = omega (arith, sw .taken, g .taken, g .cells-fit, total-less n (λ j. sweptHeader marks (t .slots) j .size) (λ j. headerAt (t .slots) j .size) (λ j low. smaller j));
       listed = sw .listed;
       present = sw .present ∙ total-same n (λ j. cond (eqb (sweptHeader marks (t .slots) j .kind) 0) 0 1) (filled after) (λ j low. ap (λ (h : Header). cond (eqb (h .kind) 0) 0 1) (sym (sw .done j low)));
+      coroutines = sw .coroutines ∙ total-same n (λ j. coroutineOf (sweptHeader marks (t .slots) j .kind)) (λ j. coroutineOf (headerAt s′ j .kind)) (λ j low. ap (λ (h : Header). coroutineOf (h .kind)) (sym (sw .done j low)));
       room = omega (arith, sw .room);
     }
       where

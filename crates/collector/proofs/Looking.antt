@@ -12,6 +12,7 @@ use borrow.Author.Tests.{eq-eqb, ne-eqb}
 use Rattle.slots.specs.Header.{headerAt, scalarsAt, setHeader}
 use Rattle.slots.specs.declared.Header.{Header}
 use Rattle.model.specs.declared.Weights.{Weights}
+use Rattle.heap.specs.Good.{coroutineOf}
 use Rattle.collector.specs.declared.Tally.{Tally}
 use Rattle.collector.specs.Sweep.{weightAt, Weighable, emptyHeader, freedHeader, keptTally, retiredTally, returnedTally, Looked, vacant, stays, retires, returns}
 
@@ -26,11 +27,11 @@ module _ (s x l m : List ℕ) (i : ℕ) (w : Weights) (t : Tally) {h : Header} (
     held : headerAt s i .kind ≢ 0
     held e = k (ap (λ (y : Header). y .kind) q ∙ e)
 
-    pub look-stays : (getD m i 0 ≡ 0 → ⊥) → {n : ℕ} → n ≡ weightAt w h (scalarsAt x i .f) → Looked s x l m i w t s l (keptTally t n (h .size))
-    look-stays z {n} e = stays held z refl refl (e₂ (e ∙ ap (λ (y : Header). weightAt w y (scalarsAt x i .f)) q) (ap (λ (y : Header). y .size) q))
+    pub look-stays : (getD m i 0 ≡ 0 → ⊥) → {n k : ℕ} → n ≡ weightAt w h (scalarsAt x i .f) → k ≡ coroutineOf (h .kind) → Looked s x l m i w t s l (keptTally t n (h .size) k)
+    look-stays z {n} e f = stays held z refl refl (e₃ (e ∙ ap (λ (y : Header). weightAt w y (scalarsAt x i .f)) q) (ap (λ (y : Header). y .size) q) (f ∙ ap (λ (y : Header). coroutineOf (y .kind)) q))
       where
-        e₂ : {a b c d : ℕ} → a ≡ c → b ≡ d → keptTally t a b ≡ keptTally t c d
-        e₂ p r = λ j. keptTally t (p j) (r j)
+        e₃ : {a b c a′ b′ c′ : ℕ} → a ≡ a′ → b ≡ b′ → c ≡ c′ → keptTally t a b c ≡ keptTally t a′ b′ c′
+        e₃ p r o = λ j. keptTally t (p j) (r j) (o j)
 
     module _ (z : getD m i 0 ≡ 0) where
       pub look-retires : h .half % 32768 ≡ 32767 → {r : Header} {s′ : List ℕ} → r ≡ emptyHeader h (h .half % 32768) → s′ ≡ setHeader s i r → Looked s x l m i w t s′ l (retiredTally t)

@@ -148,8 +148,8 @@ module _ {t : State} (g : Good t) where
 
 -- the record, as the code makes it
 pub heap-is : (h : Heap) (y : Tally) {a : Account} {c f : ℕ} → a ≡ afterSweep (h .account) (y .weight) → c ≡ saturated (h .collections + 1) → f ≡ saturated (h .freed + y .freed) →
-    record { account = a; weights = h .weights; size = h .size; fresh = h .fresh; free = y .free; top = h .top; entries = h .entries; taken = y .taken; present = y .present; collections = c; freed = f } ≡ heapAfter h y
-heap-is h y p q r = λ j. record { account = p j; weights = h .weights; size = h .size; fresh = h .fresh; free = y .free; top = h .top; entries = h .entries; taken = y .taken; present = y .present; collections = q j; freed = r j }
+    record { account = a; weights = h .weights; size = h .size; fresh = h .fresh; free = y .free; top = h .top; entries = h .entries; taken = y .taken; present = y .present; coroutines = y .coroutines; collections = c; freed = f } ≡ heapAfter h y
+heap-is h y p q r = λ j. record { account = p j; weights = h .weights; size = h .size; fresh = h .fresh; free = y .free; top = h .top; entries = h .entries; taken = y .taken; present = y .present; coroutines = y .coroutines; collections = q j; freed = r j }
 
 -- ---- from the buffers to the promise
 

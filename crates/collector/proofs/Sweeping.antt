@@ -19,6 +19,8 @@ use Rattle.cells.specs.Regions.{sumTo}
 use Rattle.model.specs.Slots as Slots
 use Rattle.model.specs.Slots.{one, freeListAfter}
 use Rattle.model.specs.declared.Weights.{Weights}
+use Rattle.heap.specs.Good.{coroutineOf}
+use Rattle.heap.proofs.PlaceLaws.{coroutine-max}
 use Rattle.collector.specs.declared.Tally.{Tally}
 use Rattle.collector.specs.Sweep.{bytesAt, weightAt, Weighable, freedHeader, nextGeneration, freedAt, returnedAt, sweptHeader, filledIn, keptTally, retiredTally, returnedTally, Looked, vacant, stays, retires, returns, Lookable, Swept, Sweepable}
 use Rattle.collector.proofs.Weighing.{weight-le}
@@ -87,7 +89,7 @@ filled-none : (s : List ℕ) (j : ℕ) → headerAt s j .kind ≡ 0 → filledIn
 filled-none s j k = rw (eq-eqb (headerAt s j .kind) 0 k)
 
 module _ {n : ℕ} {w : Weights} {s₀ x l₀ m : List ℕ} {free₀ : ℕ} (g : Sweepable n w s₀ x l₀ m free₀) where
-  pub swept-start : Swept n w s₀ x l₀ m free₀ 0 s₀ l₀ record { free = free₀; freed = 0; weight = 0; taken = 0; present = 0 }
+  pub swept-start : Swept n w s₀ x l₀ m free₀ 0 s₀ l₀ record { free = free₀; freed = 0; weight = 0; taken = 0; present = 0; coroutines = 0 }
   unfolding freeListAfter Slots.sumTo sumTo
   swept-start = record {
     slots-length = refl;
@@ -100,11 +102,13 @@ module _ {n : ℕ} {w : Weights} {s₀ x l₀ m : List ℕ} {free₀ : ℕ} (g :
     weight = refl;
     taken = refl;
     present = refl;
+    coroutines = refl;
     room = omega (arith, g .room);
     few-freed = omega arith;
     heavy = omega arith;
     few-cells = omega arith;
     few-present = omega arith;
+    few-coroutines = omega arith;
   }
 
   module _ {i : ℕ} {s l : List ℕ} {t : Tally} (v : Swept n w s₀ x l₀ m free₀ i s l t) (lt : i < n) where
@@ -132,6 +136,7 @@ module _ {n : ℕ} {w : Weights} {s₀ x l₀ m : List ℕ} {free₀ : ℕ} (g :
       heavy = v .heavy;
       cells = v .few-cells;
       present = v .few-present;
+      coroutines = v .few-coroutines;
     }
 
     -- one slot more, by what became of it
@@ -153,11 +158,13 @@ module _ {n : ℕ} {w : Weights} {s₀ x l₀ m : List ℕ} {free₀ : ℕ} (g :
           weight = rw (sw, eq-eqb (headerAt s₀ i .kind) 0 k₀) (omega (arith, v .weight));
           taken = rw (sw, g .hollow i lt k₀) (omega (arith, v .taken));
           present = rw (sw, eq-eqb (headerAt s₀ i .kind) 0 k₀) (omega (arith, v .present));
+          coroutines = rw (sw, k₀) (omega (arith, v .coroutines));
           room = omega (arith, v .room, filled-none s₀ i k₀);
           few-freed = omega (arith, v .few-freed);
           heavy = omega (arith, v .heavy);
           few-cells = omega (arith, v .few-cells);
           few-present = omega (arith, v .few-present);
+          few-coroutines = omega (arith, v .few-coroutines);
         })
     swept-step {s′} {l′} {t′} (stays k z es el et) =
         let k₀ : headerAt s₀ i .kind ≢ 0 = λ e. k (kind-same ∙ e) in
@@ -165,6 +172,7 @@ module _ {n : ℕ} {w : Weights} {s₀ x l₀ m : List ℕ} {free₀ : ℕ} (g :
         let sw = swept-kept m s₀ i nf in
         let wt : weightAt w (headerAt s i) (scalarsAt x i .f) ≡ weightAt w (headerAt s₀ i) (scalarsAt x i .f) = ap (λ (h : Header). weightAt w h (scalarsAt x i .f)) same in
         let sz : headerAt s i .size ≡ headerAt s₀ i .size = ap (λ (h : Header). h .size) same in
+        let co : coroutineOf (headerAt s i .kind) ≡ coroutineOf (headerAt s₀ i .kind) = ap coroutineOf kind-same in
         rw (es, el, et, add-one i)
         (record {
           slots-length = v .slots-length;
@@ -177,11 +185,13 @@ module _ {n : ℕ} {w : Weights} {s₀ x l₀ m : List ℕ} {free₀ : ℕ} (g :
           weight = rw (sw, ne-eqb (headerAt s₀ i .kind) 0 k₀) (omega (arith, v .weight, wt));
           taken = rw sw (omega (arith, v .taken, sz));
           present = rw (sw, ne-eqb (headerAt s₀ i .kind) 0 k₀) (omega (arith, v .present));
+          coroutines = rw sw (omega (arith, v .coroutines, co));
           room = omega (arith, v .room, filled-one s₀ i k₀);
           few-freed = omega (arith, v .few-freed);
           heavy = omega (arith, v .heavy, wt, weight-le (g .weights) (g .weighable i lt));
           few-cells = omega (arith, v .few-cells, sz, g .weighable i lt .size);
           few-present = omega (arith, v .few-present);
+          few-coroutines = omega (arith, v .few-coroutines, coroutine-max (headerAt s i .kind));
         })
     swept-step {s′} {l′} {t′} (retires k z r es el et) =
         let k₀ : headerAt s₀ i .kind ≢ 0 = λ e. k (kind-same ∙ e) in
@@ -203,11 +213,13 @@ module _ {n : ℕ} {w : Weights} {s₀ x l₀ m : List ℕ} {free₀ : ℕ} (g :
           weight = rw sw (omega (arith, v .weight));
           taken = rw sw (omega (arith, v .taken));
           present = rw sw (omega (arith, v .present));
+          coroutines = rw sw (omega (arith, v .coroutines));
           room = omega (arith, v .room, filled-one s₀ i k₀);
           few-freed = omega (arith, v .few-freed);
           heavy = omega (arith, v .heavy);
           few-cells = omega (arith, v .few-cells);
           few-present = omega (arith, v .few-present);
+          few-coroutines = omega (arith, v .few-coroutines);
         })
     swept-step {s′} {l′} {t′} (returns k z r es el et) =
         let k₀ : headerAt s₀ i .kind ≢ 0 = λ e. k (kind-same ∙ e) in
@@ -230,11 +242,13 @@ module _ {n : ℕ} {w : Weights} {s₀ x l₀ m : List ℕ} {free₀ : ℕ} (g :
           weight = rw sw (omega (arith, v .weight));
           taken = rw sw (omega (arith, v .taken));
           present = rw sw (omega (arith, v .present));
+          coroutines = rw sw (omega (arith, v .coroutines));
           room = omega (arith, v .room, filled-one s₀ i k₀);
           few-freed = omega (arith, v .few-freed);
           heavy = omega (arith, v .heavy);
           few-cells = omega (arith, v .few-cells);
           few-present = omega (arith, v .few-present);
+          few-coroutines = omega (arith, v .few-coroutines);
         })
 
   pub swept-end : {i : ℕ} {s l : List ℕ} {t : Tally} → Swept n w s₀ x l₀ m free₀ i s l t → i ≤ n → n ≤ i → Swept n w s₀ x l₀ m free₀ n s l t

@@ -17,7 +17,7 @@ use Rattle.model.specs.declared.Weights.{Weights}
 use Rattle.account.specs.Account.{afterSweep, saturated}
 use Rattle.heap.specs.declared.Heap.{Heap}
 use Rattle.heap.specs.State.{State}
-use Rattle.heap.specs.Good.{WeightsGood}
+use Rattle.heap.specs.Good.{WeightsGood, coroutineOf}
 use Rattle.collector.specs.declared.Tally.{Tally}
 
 -- ---- one object's weight: document 01's column "bytes beyond the slot weight", read off the header; f: a coroutine's frames
@@ -76,19 +76,19 @@ filledIn s j = cond (eqb (headerAt s j .kind) 0) 0 1
 
 -- ---- the counts
 
-abbrev pub keptTally : Tally → ℕ → ℕ → Tally
-keptTally t weight size = record { free = t .free; freed = t .freed; weight = t .weight + weight; taken = t .taken + size; present = t .present + 1 }
+abbrev pub keptTally : Tally → ℕ → ℕ → ℕ → Tally
+keptTally t weight size coroutine = record { free = t .free; freed = t .freed; weight = t .weight + weight; taken = t .taken + size; present = t .present + 1; coroutines = t .coroutines + coroutine }
 
 abbrev pub retiredTally : Tally → Tally
-retiredTally t = record { free = t .free; freed = t .freed + 1; weight = t .weight; taken = t .taken; present = t .present }
+retiredTally t = record { free = t .free; freed = t .freed + 1; weight = t .weight; taken = t .taken; present = t .present; coroutines = t .coroutines }
 
 abbrev pub returnedTally : Tally → Tally
-returnedTally t = record { free = t .free + 1; freed = t .freed + 1; weight = t .weight; taken = t .taken; present = t .present }
+returnedTally t = record { free = t .free + 1; freed = t .freed + 1; weight = t .weight; taken = t .taken; present = t .present; coroutines = t .coroutines }
 
 -- what becomes of slot i, of the free list and of the counts
 pub data Looked (s x l m : List ℕ) (i : ℕ) (w : Weights) (t : Tally) (s′ l′ : List ℕ) (t′ : Tally) : Type 0 where
   vacant : headerAt s i .kind ≡ 0 → s′ ≡ s → l′ ≡ l → t′ ≡ t → Looked s x l m i w t s′ l′ t′
-  stays : headerAt s i .kind ≢ 0 → getD m i 0 ≢ 0 → s′ ≡ s → l′ ≡ l → t′ ≡ keptTally t (weightAt w (headerAt s i) (scalarsAt x i .f)) (headerAt s i .size) → Looked s x l m i w t s′ l′ t′
+  stays : headerAt s i .kind ≢ 0 → getD m i 0 ≢ 0 → s′ ≡ s → l′ ≡ l → t′ ≡ keptTally t (weightAt w (headerAt s i) (scalarsAt x i .f)) (headerAt s i .size) (coroutineOf (headerAt s i .kind)) → Looked s x l m i w t s′ l′ t′
   retires : headerAt s i .kind ≢ 0 → getD m i 0 ≡ 0 → headerAt s i .half % 32768 ≡ 32767 → s′ ≡ setHeader s i (freedHeader (headerAt s i)) → l′ ≡ l → t′ ≡ retiredTally t → Looked s x l m i w t s′ l′ t′
   returns : headerAt s i .kind ≢ 0 → getD m i 0 ≡ 0 → headerAt s i .half % 32768 ≢ 32767 → s′ ≡ setHeader s i (freedHeader (headerAt s i)) → l′ ≡ set l (t .free) i → t′ ≡ returnedTally t → Looked s x l m i w t s′ l′ t′
 
@@ -106,6 +106,7 @@ pub record Lookable (s x l m : List ℕ) (i : ℕ) (w : Weights) (t : Tally) : T
   pub heavy : t .weight ≤ i * 8589934592
   pub cells : t .taken ≤ i * 1048576
   pub present : t .present ≤ i
+  pub coroutines : t .coroutines ≤ i
 
 -- ---- all slots
 
@@ -121,11 +122,13 @@ pub record Swept (n : ℕ) (w : Weights) (s₀ x l₀ m : List ℕ) (free₀ i :
   pub weight : t .weight ≡ Slots.sumTo i (λ j. cond (eqb (sweptHeader m s₀ j .kind) 0) 0 (weightAt w (headerAt s₀ j) (scalarsAt x j .f)))
   pub taken : t .taken ≡ sumTo (λ j. sweptHeader m s₀ j .size) i
   pub present : t .present ≡ sumTo (λ j. cond (eqb (sweptHeader m s₀ j .kind) 0) 0 1) i
+  pub coroutines : t .coroutines ≡ sumTo (λ j. coroutineOf (sweptHeader m s₀ j .kind)) i
   pub room : (t .free + t .present) + sumTo (filledIn s₀) n ≤ n + sumTo (filledIn s₀) i
   pub few-freed : t .freed ≤ i
   pub heavy : t .weight ≤ i * 8589934592
   pub few-cells : t .taken ≤ i * 1048576
   pub few-present : t .present ≤ i
+  pub few-coroutines : t .coroutines ≤ i
 
 -- what the sweep asks
 pub record Sweepable (n : ℕ) (w : Weights) (s x l m : List ℕ) (free : ℕ) : Type 0 where
@@ -154,6 +157,7 @@ heapAfter h t = record {
   entries = h .entries;
   taken = t .taken;
   present = t .present;
+  coroutines = t .coroutines;
   collections = saturated (h .collections + 1);
   freed = saturated (h .freed + t .freed);
 }

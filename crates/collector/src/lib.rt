@@ -6,7 +6,7 @@ ghost use Rattle.slots.specs.Header.{headerAt, scalarsAt};
 ghost use Rattle.layout.specs.Sections.{Tabled, layoutOf};
 ghost use Rattle.model.specs.Calls as Calls;
 ghost use Rattle.heap.specs.State.{state};
-ghost use Rattle.heap.specs.Good.{Good, Rested, WeightsGood};
+ghost use Rattle.heap.specs.Good.{Good, Rested, WeightsGood, coroutinesIn};
 ghost use Rattle.heap.specs.Promise.{Does};
 ghost use Rattle.marking.specs.Marks.{Sound};
 ghost use Rattle.finalizing.specs.Dropped.{droppedWords, marksKept, Blanks};
@@ -26,13 +26,15 @@ pub enum Collection {
     Refused(Refusal),
 }
 
-// The free list's length, the slots freed, and of what is kept the weight, the cells and the number.
+// The free list's length, the slots freed, and of what is kept the weight, the cells, the number and
+// the number of coroutines.
 pub struct Tally {
     pub free: u64,
     pub freed: u64,
     pub weight: u64,
     pub taken: u64,
     pub present: u64,
+    pub coroutines: u64,
 }
 
 // What the object in slot i weighs.
@@ -96,12 +98,14 @@ fn sweep_slot(
     }
     if marks[i] != 0 {
         let weight = weigh(h, scalars, i, w);
+        let coroutine = heap::coroutine_of(h.kind);
         return Tally {
             free: t.free,
             freed: t.freed,
             weight: t.weight + weight,
             taken: t.taken + h.size,
             present: t.present + 1,
+            coroutines: t.coroutines + coroutine,
         };
     }
     let generation = h.half % 32768;
@@ -113,6 +117,7 @@ fn sweep_slot(
             weight: t.weight,
             taken: t.taken,
             present: t.present,
+            coroutines: t.coroutines,
         };
     }
     slots::write_header(slots, i, empty(h, generation + 1));
@@ -124,6 +129,7 @@ fn sweep_slot(
         weight: t.weight,
         taken: t.taken,
         present: t.present,
+        coroutines: t.coroutines,
     }
 }
 
@@ -146,6 +152,7 @@ fn sweep(
         weight: 0,
         taken: 0,
         present: 0,
+        coroutines: 0,
     };
     let mut i: usize = 0;
     while i < fresh {
@@ -165,6 +172,7 @@ pub enum Ending {
 fn collect_slots(
     fresh: usize,
     free: u64,
+    coroutines: u64,
     w: Weights,
     slots: &mut [u64],
     scalars: &mut [u64],
@@ -181,6 +189,7 @@ fn collect_slots(
     requires { ⌜ Tabled (now layout) (now table) ⌝ }
     requires { ⌜ Blanks fresh (now marks) (now order) ⌝ }
     requires { ⌜ Sweepable fresh w (now slots) (now scalars) (now list) (now marks) free ⌝ }
+    requires { ⌜ coroutines ≡ coroutinesIn (now slots) fresh ⌝ }
     ensures { λ r. ⌜ Ends r fresh w free
         (droppedWords (layoutOf (now (layout .entry))) (now (slots .entry)) (now (scalars .entry)) (now (cells .entry)) fresh (now (roots .entry)))
         (marksKept (layoutOf (now (layout .entry))) (now (slots .entry)) (now (scalars .entry)) (now (cells .entry)) fresh (now (roots .entry)))
@@ -195,6 +204,7 @@ fn collect_slots(
         layout,
         table,
         fresh,
+        coroutines,
         marks,
         order,
         places,
@@ -245,6 +255,7 @@ pub fn collect(
     let ending = collect_slots(
         fresh,
         heap.free,
+        heap.coroutines,
         weights,
         slots,
         scalars,
@@ -277,6 +288,7 @@ pub fn collect(
         entries: heap.entries,
         taken: t.taken,
         present: t.present,
+        coroutines: t.coroutines,
         collections,
         freed,
     };

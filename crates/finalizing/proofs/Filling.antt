@@ -12,9 +12,13 @@ use borrow.Author.Tests.{eq-eqb, ne-eqb}
 use Rattle.slots.specs.Header.{headerAt, scalarsAt}
 use Rattle.slots.specs.declared.Header.{Header}
 use Rattle.slots.specs.declared.Scalars.{Scalars}
+use Rattle.slots.proofs.Cases.{by-cases, same-or-not}
+use Rattle.cells.specs.Regions.{sumTo}
 use Rattle.model.specs.Replies.{written}
+use Rattle.heap.specs.Good.{coroutineOf, coroutinesIn}
+use Rattle.marking.specs.Children.{wordAt}
 use Rattle.marking.proofs.Doing.{drop-onward}
-use Rattle.finalizing.specs.Dropped.{waits, isDropped, sieve, finalizedIn, Fills}
+use Rattle.finalizing.specs.Dropped.{waits, isDropped, sieve, droppedSlots, finalizedIn, Fills}
 
 -- ---- one slot
 
@@ -125,6 +129,30 @@ module _ (P : ℕ → Bool) (word : ℕ → ℕ) where
         let e : take k p ≡ sieve P word n 0 = sym (append-nil (take k p)) ∙ (rw (sieve-end n i l) at (v .done)) in
         let c : k ≡ length (sieve P word n 0) = counting-end (v .counted) l in
         record { is = sym (take-append-drop k p) ∙ rw (e, v .rest, c) }
+
+-- ---- no coroutines
+
+part-none : (f : ℕ → ℕ) (n j : ℕ) → sumTo f n ≡ 0 → j < n → f j ≡ 0
+unfolding sumTo
+part-none f zero j e l = absurd (omega arith)
+part-none f (suc n) j e l = by-cases (same-or-not j n) (λ q. rw q (omega (arith, e))) (λ q. part-none f n j (omega (arith, e)) (omega (arith, q)))
+
+sieve-none : (P : ℕ → Bool) (word : ℕ → ℕ) (f i : ℕ) → ((j : ℕ) → j < i + f → P j ≡ false) → sieve P word f i ≡ []
+unfolding sieve
+sieve-none P word zero i h = refl
+sieve-none P word (suc f) i h = rw (h i (omega arith)) (sieve-none P word f (suc i) (λ j l. h j (omega arith)))
+
+module _ (s x m : List ℕ) where
+  other-kind : (j : ℕ) → coroutineOf (headerAt s j .kind) ≡ 0 → headerAt s j .kind ≡ 11 → ⊥
+  other-kind j e k = let q : coroutineOf (headerAt s j .kind) ≡ 1 = rw k in omega (arith, e, q)
+
+  stays-out : (j : ℕ) → coroutineOf (headerAt s j .kind) ≡ 0 → isDropped s x m j ≡ false
+  stays-out j e = by-cases (same-or-not (getD m j 0) 0) (λ z. sym (dropped-other s x m j z refl (other-kind j e))) (λ z. sym (dropped-marked s x m j z))
+
+  pub none-dropped : {c : ℕ} (n : ℕ) → c ≡ coroutinesIn s n → c ≡ 0 → 0 ≡ length (droppedSlots s x m n)
+  none-dropped n e z =
+      let nil : droppedSlots s x m n ≡ [] = sieve-none (isDropped s x m) (wordAt s) n 0 (λ j l. stays-out j (part-none (λ i. coroutineOf (headerAt s i .kind)) n j (sym e ∙ z) (omega arith))) in
+      rw nil
 
 -- ---- places cleared
 

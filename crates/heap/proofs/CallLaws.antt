@@ -248,6 +248,7 @@ good-account g a = record {
   cells-fit = g .cells-fit;
   listed = g .listed;
   present = g .present;
+  coroutines = g .coroutines;
   room = g .room;
 }
 

@@ -194,6 +194,7 @@ new-good o s x f d c e z a b l m = record {
   cells-fit = omega arith;
   listed = record { inside = λ k h. absurd (omega arith); empty = λ k h. absurd (omega arith); low = λ k h. absurd (omega arith); high = λ k h. absurd (omega arith); once = λ i j h k. absurd (omega arith) };
   present = refl;
+  coroutines = refl;
   room = omega arith;
 }
 

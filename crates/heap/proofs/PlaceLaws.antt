@@ -44,7 +44,7 @@ use Rattle.heap.specs.declared.Refusal.the-variants as No
 use Rattle.heap.specs.Answers.{numberOf}
 use Rattle.heap.specs.Kinds.{contentOf, roomOf}
 use Rattle.heap.specs.State.{State, modelOf, moreOf, rawOf, slotFrom, slotOf}
-use Rattle.heap.specs.Good.{Good, SlotGood, filled}
+use Rattle.heap.specs.Good.{Good, SlotGood, coroutineOf, filled}
 use Rattle.heap.specs.Promise.{Does}
 use Rattle.heap.specs.Placing.{flagOf, grownHeap, judgedNew, newHalf, newHeader, newRaw, newWord, nextRegion, nextSlot, placedPlain, placedRegion}
 use Rattle.heap.proofs.KindLaws.{box-test, cells-of-content, object-some}
@@ -62,7 +62,7 @@ takes t kind = record { slot = refl; half = refl; fresh-is = refl; free-is = ref
 -- any place for the region: the record's top and entries, and the directory, as they will be
 abbrev placedAt : State → Header → ℕ → ℕ → ℕ → ℕ → ℕ → List ℕ → State
 placedAt t h start entry bytes top entries dir = record {
-  heap = grownHeap (t .heap) bytes (h .size) top entries;
+  heap = grownHeap (t .heap) (h .kind) bytes (h .size) top entries;
   slots = setHeader (t .slots) (nextSlot t) (newHeader t h start entry);
   scalars = t .scalars;
   list = t .list;
@@ -74,6 +74,13 @@ pub flag-max : (kind : ℕ) → flagOf kind ≤ 32768
 flag-max kind = go (eqb kind 5)
   where
     go : (b : Bool) → cond b 32768 0 ≤ 32768
+    go true = omega arith
+    go false = omega arith
+
+pub coroutine-max : (kind : ℕ) → coroutineOf kind ≤ 1
+coroutine-max kind = go (eqb kind 11)
+  where
+    go : (b : Bool) → cond b 1 0 ≤ 1
     go true = omega arith
     go false = omega arith
 
@@ -203,6 +210,10 @@ module _ {t : State} (g : Good t) (h : Header) (start entry bytes top entries : 
           sym
           (one-more (filled t) (filled after) (λ j ne. ap (λ (x : Header). cond (eqb (x .kind) 0) 0 1) (there j ne)) (λ l. rw (was-empty l .0))
           ∙ rw (here, eqb-no (h .kind) 0 some-kind, g .present));
+      coroutines =
+          sym
+          (one-more (λ j. coroutineOf (headerAt (t .slots) j .kind)) (λ j. coroutineOf (headerAt (after .slots) j .kind)) (λ j ne. ap (λ (x : Header). coroutineOf (x .kind)) (there j ne)) (λ l. rw (was-empty l .0))
+          ∙ rw (here, g .coroutines));
       room =
           by-cases (same-or-not (t .heap .free) 0)
           (λ z. rw (eqb-yes (t .heap .free) 0 z) (omega (arith, g .room)))

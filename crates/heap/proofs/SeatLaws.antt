@@ -10,12 +10,13 @@ use Rattle.account.specs.declared.Account.{Account}
 use Rattle.account.specs.declared.Charged.{Charged}
 use Rattle.account.specs.declared.Charged.the-variants as C
 use Rattle.account.specs.Account.{chargeOf, fits}
-use Rattle.slots.specs.Header.{setHeader, withHalf, withRegion}
+use Rattle.slots.specs.Header.{headerAt, setHeader, withHalf, withRegion}
 use Rattle.slots.specs.FreeList.{Takes, takenHalf, takenSlot}
 use Rattle.slots.specs.declared.Header.{Header}
 use Rattle.slots.specs.declared.Taken.{Taken}
 use Rattle.slots.proofs.Cases.{by-cases, same-or-not}
 use Rattle.slots.proofs.FreeListLaws.{taken-facts, taken-max}
+use Rattle.cells.proofs.SumLaws.{sum-le}
 use Rattle.history.proofs.Facts.{eqb-no, eqb-yes, leb-no, leb-yes, ltb-no, ltb-yes}
 use Rattle.heap.specs.declared.Heap.{Heap}
 use Rattle.heap.specs.declared.Made.{Made}
@@ -23,10 +24,10 @@ use Rattle.heap.specs.declared.Reading.the-variants.{Is}
 use Rattle.heap.specs.declared.Done.the-variants.{Accepted, Refused}
 use Rattle.heap.specs.declared.Refusal.the-variants as No
 use Rattle.heap.specs.State.{State, state, withRegions}
-use Rattle.heap.specs.Good.{Good}
+use Rattle.heap.specs.Good.{Good, coroutineOf}
 use Rattle.heap.specs.Placing.{Seatable, Seats, flagOf, judgedNew, newWord, nextSlot, placedPlain, placedRegion}
 use Rattle.heap.proofs.CallLaws.{charge-not, charge-so}
-use Rattle.heap.proofs.PlaceLaws.{judged-accepted}
+use Rattle.heap.proofs.PlaceLaws.{coroutine-max, judged-accepted}
 
 -- ---- judge_new
 
@@ -77,6 +78,7 @@ seatable {t} {bytes} {size} g e =
       fresh = g .fresh;
       left = j .left;
       present = omega (arith, g .room, g .fresh, g .slots-max);
+      coroutines = omega (arith, g .coroutines, sum-le (λ i. coroutineOf (headerAt (t .slots) i .kind)) (t .heap .fresh) (λ j l. coroutine-max (headerAt (t .slots) j .kind)), g .fresh, g .slots-max);
       cells-max = omega (arith, j .room, g .laid .cells-max);
       in-budget = j .in-budget;
     }
@@ -96,8 +98,8 @@ module _ {h : Heap} {s list : List ℕ} {bytes size : ℕ} (g : Seatable h s lis
     seat-half l = omega (arith, taken-facts (g .listed) e .high)
 
 -- the record after it
-abbrev pub seatedHeap : Heap → Account → Taken → ℕ → Heap
-seatedHeap h a t size = record {
+abbrev pub seatedHeap : Heap → Account → Taken → ℕ → ℕ → Heap
+seatedHeap h a t size coroutine = record {
   account = a;
   weights = h .weights;
   size = h .size;
@@ -107,16 +109,17 @@ seatedHeap h a t size = record {
   entries = h .entries;
   taken = h .taken + size;
   present = h .present + 1;
+  coroutines = h .coroutines + coroutine;
   collections = h .collections;
   freed = h .freed;
 }
 
-pub seats : (h : Heap) {s s′ list : List ℕ} (bytes : ℕ) (hd : Header) {flag : ℕ} {t : Taken} {c : Charged} {a : Account} → Takes s list (h .fresh) (h .free) flag t → flag ≡ flagOf (hd .kind) → c ≡ chargeOf (h .account) bytes → c ≡ C.Next a →
-    s′ ≡ setHeader s (t .slot) (withHalf hd (t .half)) → Seats h s list hd bytes record { heap = seatedHeap h a t (hd .size); answer = Is (t .half * 4294967296 + t .slot) } s′
-seats h {s} {list = list} bytes hd {t = t} e f p q w =
+pub seats : (h : Heap) {s s′ list : List ℕ} (bytes : ℕ) (hd : Header) {flag coroutine : ℕ} {t : Taken} {c : Charged} {a : Account} → Takes s list (h .fresh) (h .free) flag t → flag ≡ flagOf (hd .kind) → coroutine ≡ coroutineOf (hd .kind) → c ≡ chargeOf (h .account) bytes → c ≡ C.Next a →
+    s′ ≡ setHeader s (t .slot) (withHalf hd (t .half)) → Seats h s list hd bytes record { heap = seatedHeap h a t (hd .size) coroutine; answer = Is (t .half * 4294967296 + t .slot) } s′
+seats h {s} {list = list} bytes hd {t = t} e f o p q w =
     let half : t .half ≡ takenHalf s list (h .free) + flagOf (hd .kind) = e .half ∙ ap (λ (n : ℕ). takenHalf s list (h .free) + n) f in
     record {
-      heap = rw (charge-so (h .account) bytes (sym p ∙ q) .1, e .fresh-is, e .free-is);
+      heap = rw (charge-so (h .account) bytes (sym p ∙ q) .1, e .fresh-is, e .free-is, o);
       slots = w ∙ rw (e .slot, half);
       answer = rw (e .slot, half);
     }

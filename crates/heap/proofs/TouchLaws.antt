@@ -23,7 +23,7 @@ use Rattle.model.specs.Model.{Model}
 use Rattle.heap.specs.declared.Heap.{Heap}
 use Rattle.heap.specs.Kinds.{contentOf, roomOf}
 use Rattle.heap.specs.State.{State, modelOf, moreOf, rawOf, slotFrom, slotOf, withRegions}
-use Rattle.heap.specs.Good.{Good, SlotGood, filled}
+use Rattle.heap.specs.Good.{Good, SlotGood, coroutineOf, filled}
 use Rattle.heap.proofs.KindLaws.{object-some}
 use Rattle.heap.proofs.SlotLaws.{slot-unused, slot-used}
 use Rattle.heap.proofs.ReachLaws.{Reached, reached-boxed, reached-gen, reached-object, reached-ref}
@@ -52,6 +52,7 @@ good-again {b} {a} g c =
     let fresh : a .heap .fresh ≡ b .heap .fresh = ap (λ (x : Heap). x .fresh) h in
     let free : a .heap .free ≡ b .heap .free = ap (λ (x : Heap). x .free) h in
     let there : a .heap .present ≡ b .heap .present = ap (λ (x : Heap). x .present) h in
+    let coroutines : a .heap .coroutines ≡ b .heap .coroutines = ap (λ (x : Heap). x .coroutines) h in
     record {
       some-slot = omega (arith, g .some-slot);
       slots-max = omega (arith, g .slots-max);
@@ -75,6 +76,7 @@ good-again {b} {a} g c =
             once = g .listed .once;
           };
       present = rw (fresh, there) (g .present ∙ sym (sum-ext (filled b) (filled a) (b .heap .fresh) (λ j l. ap (λ (k : ℕ). cond (eqb k 0) 0 1) (c .kind j l))));
+      coroutines = rw (fresh, coroutines) (g .coroutines ∙ sym (sum-ext (λ j. coroutineOf (headerAt (b .slots) j .kind)) (λ j. coroutineOf (headerAt (a .slots) j .kind)) (b .heap .fresh) (λ j l. ap coroutineOf (c .kind j l))));
       room = omega (arith, g .room);
     }
 

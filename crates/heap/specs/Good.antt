@@ -45,6 +45,14 @@ pub record WeightsGood (w : Weights) : Type 0 where
 abbrev pub filled : State → ℕ → ℕ
 filled t i = cond (eqb (headerAt (t .slots) i .kind) 0) 0 1
 
+-- 1 for a coroutine's kind
+abbrev pub coroutineOf : ℕ → ℕ
+coroutineOf kind = cond (eqb kind 11) 1 0
+
+-- the coroutines in the first n slots
+abbrev pub coroutinesIn : List ℕ → ℕ → ℕ
+coroutinesIn s n = sumTo (λ i. coroutineOf (headerAt s i .kind)) n
+
 pub record Good (t : State) : Type 0 where
   pub some-slot : 1 ≤ t .heap .size
   pub slots-max : t .heap .size ≤ 65536
@@ -59,9 +67,10 @@ pub record Good (t : State) : Type 0 where
   pub laid : Laid (t .heap .fresh) (t .heap .top) (t .heap .entries) (t .slots) (t .directory) (t .cells)
   pub taken : t .heap .taken ≡ sizesOf (t .slots) (t .heap .fresh)
   pub cells-fit : t .heap .taken ≤ length (t .cells)
-  -- the free list, and the objects present
+  -- the free list, the objects present, and the coroutines among them
   pub listed : Listed (t .slots) (t .list) (t .heap .fresh) (t .heap .free)
   pub present : t .heap .present ≡ sumTo (filled t) (t .heap .fresh)
+  pub coroutines : t .heap .coroutines ≡ coroutinesIn (t .slots) (t .heap .fresh)
   pub room : t .heap .free + t .heap .present ≤ t .heap .fresh
 
 -- At rest, between collections: marks and order, a place for each slot and as many again, hold zeros there.

@@ -49,6 +49,7 @@ newHeap size limit weights = record {
   entries = 0;
   taken = 0;
   present = 0;
+  coroutines = 0;
   collections = 0;
   freed = 0;
 }

@@ -18,7 +18,7 @@ use Rattle.heap.specs.declared.Done.{Done}
 use Rattle.heap.specs.declared.Done.the-variants.{Accepted, Refused}
 use Rattle.heap.specs.declared.Refusal.the-variants.{NoCells, NoSlot, OverBudget}
 use Rattle.heap.specs.State.{State, modelOf, withRegions}
-use Rattle.heap.specs.Good.{Good}
+use Rattle.heap.specs.Good.{Good, coroutineOf}
 
 -- 5, 6, 7, in this order: a charge of `bytes`, and `size` more of the `total` cells
 unfoldable pub judgedNew : Heap → ℕ → ℕ → ℕ → Done
@@ -51,8 +51,8 @@ abbrev pub newRaw : ℕ → Header → List ℕ → Raw
 newRaw half h region = record { half = half; kind = h .kind; value = h .value; mode = h .mode; len = h .len; size = h .size; cells = region }
 
 -- the record with one object more
-abbrev pub grownHeap : Heap → ℕ → ℕ → ℕ → ℕ → Heap
-grownHeap h bytes size top entries = record {
+abbrev pub grownHeap : Heap → ℕ → ℕ → ℕ → ℕ → ℕ → Heap
+grownHeap h kind bytes size top entries = record {
   account = charged (h .account) bytes;
   weights = h .weights;
   size = h .size;
@@ -62,6 +62,7 @@ grownHeap h bytes size top entries = record {
   entries = entries;
   taken = h .taken + size;
   present = h .present + 1;
+  coroutines = h .coroutines + coroutineOf kind;
   collections = h .collections;
   freed = h .freed;
 }
@@ -69,7 +70,7 @@ grownHeap h bytes size top entries = record {
 -- an object without cells: size, start and entry are 0
 abbrev pub placedPlain : State → Header → ℕ → State
 placedPlain t h bytes = record {
-  heap = grownHeap (t .heap) bytes 0 (t .heap .top) (t .heap .entries);
+  heap = grownHeap (t .heap) (h .kind) bytes 0 (t .heap .top) (t .heap .entries);
   slots = setHeader (t .slots) (nextSlot t) (newHeader t (withRegion h 0 0 0) 0 0);
   scalars = t .scalars;
   list = t .list;
@@ -80,7 +81,7 @@ placedPlain t h bytes = record {
 -- an object whose region is the next at the top
 abbrev pub placedRegion : State → Header → ℕ → State
 placedRegion t h bytes = record {
-  heap = grownHeap (t .heap) bytes (h .size) (t .heap .top + h .size) (t .heap .entries + 1);
+  heap = grownHeap (t .heap) (h .kind) bytes (h .size) (t .heap .top + h .size) (t .heap .entries + 1);
   slots = setHeader (t .slots) (nextSlot t) (newHeader t h (t .heap .top) (t .heap .entries));
   scalars = t .scalars;
   list = t .list;
@@ -112,11 +113,12 @@ pub record Seatable (h : Heap) (s list : List ℕ) (bytes size : ℕ) : Type 0 w
   pub fresh : h .fresh ≤ h .size
   pub left : h .free ≡ 0 → h .fresh < h .size
   pub present : h .present ≤ 65536
+  pub coroutines : h .coroutines ≤ 65536
   pub cells-max : h .taken + size ≤ 1048576
   pub in-budget : fits (h .account) bytes ≡ true
 
 -- the header is placed, and the record has one object more; its region is the caller's care
 pub record Seats (h : Heap) (s list : List ℕ) (hd : Header) (bytes : ℕ) (r : Made) (s′ : List ℕ) : Type 0 where
-  pub heap : r .heap ≡ grownHeap h bytes (hd .size) (h .top) (h .entries)
+  pub heap : r .heap ≡ grownHeap h (hd .kind) bytes (hd .size) (h .top) (h .entries)
   pub slots : s′ ≡ setHeader s (takenSlot list (h .fresh) (h .free)) (withHalf hd (takenHalf s list (h .free) + flagOf (hd .kind)))
   pub answer : r .answer ≡ Is ((takenHalf s list (h .free) + flagOf (hd .kind)) * 4294967296 + takenSlot list (h .fresh) (h .free))

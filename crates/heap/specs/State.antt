@@ -80,6 +80,7 @@ withRegions h account top entries taken = record {
   entries = entries;
   taken = taken;
   present = h .present;
+  coroutines = h .coroutines;
   collections = h .collections;
   freed = h .freed;
 }

@@ -7,7 +7,7 @@ ghost use Rattle.model.specs.Calls as Calls;
 ghost use Rattle.model.specs.Replies.{nothing, number, truth};
 ghost use Rattle.heap.specs.Answers.{answered, doneIs, kindNumber};
 ghost use Rattle.heap.specs.State.{state};
-ghost use Rattle.heap.specs.Good.{Good};
+ghost use Rattle.heap.specs.Good.{Good, coroutineOf};
 ghost use Rattle.slots.specs.FreeList.{takenSlot};
 ghost use Rattle.heap.specs.declared.Done.the-variants.{Accepted};
 ghost use Rattle.heap.specs.declared.Reading.the-variants.{Is};
@@ -25,11 +25,14 @@ use slots::Found;
 use slots::Header;
 use words::Raw;
 
-// The row of a box in the table of kinds.
+// The rows of a box and of a coroutine in the table of kinds.
 const BOX: u64 = 5;
 
+const COROUTINE: u64 = 11;
+
 // size: slots; fresh: slots ever used; free: length of the free list; top: regions of the cells lie
-// below it; entries: length of the directory; taken: cells in use; present: objects present.
+// below it; entries: length of the directory; taken: cells in use; present: objects present;
+// coroutines: those of them that are coroutines.
 pub struct Heap {
     pub account: Account,
     pub weights: Weights,
@@ -40,6 +43,7 @@ pub struct Heap {
     pub entries: u64,
     pub taken: u64,
     pub present: u64,
+    pub coroutines: u64,
     pub collections: u64,
     pub freed: u64,
 }
@@ -421,6 +425,13 @@ fn flag_of(kind: u64) -> u64
     if kind == BOX { 32768 } else { 0 }
 }
 
+// 1 for a coroutine.
+pub fn coroutine_of(kind: u64) -> u64
+    ensures { λ r. ⌜ r ≡ coroutineOf kind ⌝ }
+{
+    if kind == COROUTINE { 1 } else { 0 }
+}
+
 // The header in the next slot, under the next object's tag.
 fn seat(heap: Heap, slots: &mut [u64], list: &[u64], header: Header, bytes: u64) -> Made
     requires { ⌜ Seatable heap (now slots) (now list) bytes (header .size) ⌝ }
@@ -443,6 +454,7 @@ fn seat(heap: Heap, slots: &mut [u64], list: &[u64], header: Header, bytes: u64)
     h.free = t.free;
     h.taken = heap.taken + header.size;
     h.present = heap.present + 1;
+    h.coroutines = heap.coroutines + coroutine_of(header.kind);
     Made {
         heap: h,
         answer: Reading::Is(t.half * 4294967296 + t.slot),
@@ -641,6 +653,7 @@ fn new_heap(size: u64, limit: u64, weights: Weights) -> Heap
         entries: 0,
         taken: 0,
         present: 0,
+        coroutines: 0,
         collections: 0,
         freed: 0,
     }

@@ -1,4 +1,4 @@
-// The calls in loops, for bench/run: a Rust or C caller keeps the heap's record in eighteen words between the loops.
+// The calls in loops, for bench/run: a Rust or C caller keeps the heap's record in nineteen words between the loops.
 use collections::Perhaps;
 use collector::Collection;
 use heap::Heap;
@@ -49,7 +49,7 @@ fn freed(a: Collection) -> u64
 // The boxes' words: their sum, modulo 2^64.
 #[no_mangle]
 pub extern "C" fn heap_bench_read_box(
-    heap: &[u64; 18],
+    heap: &[u64; 19],
     slots: &[u64],
     scalars: &[u64],
     list: &[u64],
@@ -75,7 +75,7 @@ pub extern "C" fn heap_bench_read_box(
 // The values into the boxes.
 #[no_mangle]
 pub extern "C" fn heap_bench_store_box(
-    heap: &[u64; 18],
+    heap: &[u64; 19],
     slots: &mut [u64],
     scalars: &[u64],
     list: &[u64],
@@ -101,7 +101,7 @@ pub extern "C" fn heap_bench_store_box(
 // Items of arrays: their sum, modulo 2^64.
 #[no_mangle]
 pub extern "C" fn heap_bench_read_item(
-    heap: &[u64; 18],
+    heap: &[u64; 19],
     slots: &[u64],
     scalars: &[u64],
     list: &[u64],
@@ -130,7 +130,7 @@ pub extern "C" fn heap_bench_read_item(
 // A value into items of arrays.
 #[no_mangle]
 pub extern "C" fn heap_bench_store_item(
-    heap: &[u64; 18],
+    heap: &[u64; 19],
     slots: &[u64],
     scalars: &[u64],
     list: &[u64],
@@ -157,7 +157,7 @@ pub extern "C" fn heap_bench_store_item(
 // Boxes of a word, one for each place.
 #[no_mangle]
 pub extern "C" fn heap_bench_new_box(
-    heap: &mut [u64; 18],
+    heap: &mut [u64; 19],
     slots: &mut [u64],
     scalars: &[u64],
     list: &[u64],
@@ -185,7 +185,7 @@ pub extern "C" fn heap_bench_new_box(
 // Arrays of so many items, one for each place.
 #[no_mangle]
 pub extern "C" fn heap_bench_new_array(
-    heap: &mut [u64; 18],
+    heap: &mut [u64; 19],
     slots: &mut [u64],
     scalars: &[u64],
     list: &[u64],
@@ -214,7 +214,7 @@ pub extern "C" fn heap_bench_new_array(
 // Maps of plain words, one for each place.
 #[no_mangle]
 pub extern "C" fn heap_bench_new_map(
-    heap: &mut [u64; 18],
+    heap: &mut [u64; 19],
     slots: &mut [u64],
     scalars: &mut [u64],
     list: &[u64],
@@ -241,7 +241,7 @@ pub extern "C" fn heap_bench_new_map(
 // Iterators over one source, one for each place.
 #[no_mangle]
 pub extern "C" fn heap_bench_new_iter(
-    heap: &mut [u64; 18],
+    heap: &mut [u64; 19],
     slots: &mut [u64],
     scalars: &mut [u64],
     list: &[u64],
@@ -269,7 +269,7 @@ pub extern "C" fn heap_bench_new_iter(
 // The values behind an array's last item.
 #[no_mangle]
 pub extern "C" fn heap_bench_push(
-    heap: &mut [u64; 18],
+    heap: &mut [u64; 19],
     slots: &mut [u64],
     scalars: &[u64],
     list: &[u64],
@@ -295,7 +295,7 @@ pub extern "C" fn heap_bench_push(
 // An array's last items, n of them: their sum, modulo 2^64.
 #[no_mangle]
 pub extern "C" fn heap_bench_pop(
-    heap: &[u64; 18],
+    heap: &[u64; 19],
     slots: &mut [u64],
     scalars: &[u64],
     list: &[u64],
@@ -322,7 +322,7 @@ pub extern "C" fn heap_bench_pop(
 // Keys of a map, each with itself as its value.
 #[no_mangle]
 pub extern "C" fn heap_bench_put(
-    heap: &mut [u64; 18],
+    heap: &mut [u64; 19],
     slots: &mut [u64],
     scalars: &mut [u64],
     list: &[u64],
@@ -351,7 +351,7 @@ pub extern "C" fn heap_bench_put(
 // Keys of a map: the sum of their positions, modulo 2^64.
 #[no_mangle]
 pub extern "C" fn heap_bench_find(
-    heap: &[u64; 18],
+    heap: &[u64; 19],
     slots: &[u64],
     scalars: &[u64],
     list: &[u64],
@@ -381,7 +381,7 @@ pub extern "C" fn heap_bench_find(
 // Keys out of a map.
 #[no_mangle]
 pub extern "C" fn heap_bench_remove(
-    heap: &mut [u64; 18],
+    heap: &mut [u64; 19],
     slots: &mut [u64],
     scalars: &mut [u64],
     list: &[u64],
@@ -410,7 +410,7 @@ pub extern "C" fn heap_bench_remove(
 // An iterator's next items, n of them: their sum, modulo 2^64.
 #[no_mangle]
 pub extern "C" fn heap_bench_iter_next(
-    heap: &[u64; 18],
+    heap: &[u64; 19],
     slots: &[u64],
     scalars: &mut [u64],
     list: &[u64],
@@ -437,7 +437,7 @@ pub extern "C" fn heap_bench_iter_next(
 // A collection: how many objects were freed; 0 also for a refusal.
 #[no_mangle]
 pub extern "C" fn heap_bench_collect(
-    heap: &mut [u64; 18],
+    heap: &mut [u64; 19],
     slots: &mut [u64],
     scalars: &mut [u64],
     list: &mut [u64],
@@ -481,7 +481,7 @@ pub extern "C" fn heap_bench_collect(
 // A heap over the lent buffers; 10 leaves the record and every buffer as they were.
 #[no_mangle]
 pub extern "C" fn heap_bench_open(
-    heap: &mut [u64; 18],
+    heap: &mut [u64; 19],
     size: u64,
     limit: u64,
     weights: &[u64; 5],

@@ -1,4 +1,4 @@
--- The heap's record in eighteen words, and an opening that leaves them.
+-- The heap's record in nineteen words, and an opening that leaves them.
 use Prim.Native.Nat.{ℕ}
 use mathlib.Core.Path.{_≡_}
 use mathlib.Core.Logic.{_≢_}
@@ -37,8 +37,9 @@ loaded ws = record {
   entries = getD ws 13 0;
   taken = getD ws 14 0;
   present = getD ws 15 0;
-  collections = getD ws 16 0;
-  freed = getD ws 17 0;
+  coroutines = getD ws 16 0;
+  collections = getD ws 17 0;
+  freed = getD ws 18 0;
 }
 
 -- an opening that returned r and left these words

@@ -1,14 +1,14 @@
-// The heap's record kept in eighteen words between calls: the account (used, since, threshold,
-// limit), the five weights, and size, fresh, free, top, entries, taken, present, collections,
-// freed.
+// The heap's record kept in nineteen words between calls: the account (used, since, threshold,
+// limit), the five weights, and size, fresh, free, top, entries, taken, present, coroutines,
+// collections, freed.
 ghost use mathlib.Core.Path.{_≡_};
 ghost use Rattle.record.specs.Record.{loaded};
 use account::Account;
 use heap::Heap;
 use model::Weights;
 
-// The record that eighteen words hold, and back.
-pub fn load(words: &[u64; 18]) -> Heap
+// The record that nineteen words hold, and back.
+pub fn load(words: &[u64; 19]) -> Heap
     ensures { λ r. ⌜ r ≡ loaded (now (words .entry)) ⌝ }
 {
     let account = Account {
@@ -34,12 +34,13 @@ pub fn load(words: &[u64; 18]) -> Heap
         entries: words[13],
         taken: words[14],
         present: words[15],
-        collections: words[16],
-        freed: words[17],
+        coroutines: words[16],
+        collections: words[17],
+        freed: words[18],
     }
 }
 
-pub fn save(words: &mut [u64; 18], heap: Heap)
+pub fn save(words: &mut [u64; 19], heap: Heap)
     ensures { λ _. ⌜ loaded (now (words .exit)) ≡ heap ⌝ }
 {
     let account = heap.account;
@@ -61,6 +62,7 @@ pub fn save(words: &mut [u64; 18], heap: Heap)
         heap.entries,
         heap.taken,
         heap.present,
+        heap.coroutines,
         heap.collections,
         heap.freed,
     ];

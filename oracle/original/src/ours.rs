@@ -51,7 +51,7 @@ unsafe extern "C" {
 }
 
 pub(crate) struct Ours {
-    heap: [u64; 18],
+    heap: [u64; 19],
     slots: Vec<u64>,
     scalars: Vec<u64>,
     list: Vec<u64>,
@@ -65,7 +65,7 @@ pub(crate) struct Ours {
 
 impl Ours {
     pub(crate) fn new(slots: usize, cells: usize) -> Ours {
-        Ours { heap: [0; 18], slots: vec![0; 8 * slots], scalars: vec![0; 8 * slots], list: vec![0; slots], directory: vec![0; 2 * slots], cells: vec![0; cells],
+        Ours { heap: [0; 19], slots: vec![0; 8 * slots], scalars: vec![0; 8 * slots], list: vec![0; slots], directory: vec![0; 2 * slots], cells: vec![0; cells],
             layout: Vec::new(), table: vec![0; 514], marks: vec![0; slots], order: vec![0; 2 * slots] }
     }
 

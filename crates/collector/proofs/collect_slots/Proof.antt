@@ -13,7 +13,7 @@ use Rattle.marking.proofs.unmark.Reads as unmark-reads
 
 -- src/lib.rt:153:9
 mark-kept-requires : tie.Need-mark-kept-requires
-mark-kept-requires c κs = search needs
+mark-kept-requires c κs = ((c .before .before .before .before .before .before .before .before .before .before .before .before .before .before .before .pre) .0, ((c .before .before .before .before .before .before .before .before .before .before .before .before .before .before .before .pre) .1 .0, ((c .before .before .before .before .before .before .before .before .before .before .before .before .before .before .before .pre) .1 .1 .0, (c .before .before .before .before .before .before .before .before .before .before .before .before .before .before .before .pre) .1 .1 .1 .1)))
 
 -- src/lib.rt:154:20
 enum-known-kept : tie.Need-enum-known-kept
@@ -61,7 +61,7 @@ finalize-requires c κs = listed-slots (layoutOf (c .before .before .before .bef
 
 -- src/lib.rt:158:9
 sweep-requires : tie.Need-sweep-requires
-sweep-requires c κs = finalized-sweepable _ ((c .before .before .before .before .before .before .before .before .before .before .before .before .before .before .before .before .before .before .before .before .before .before .before .before .before .before .before .before .before .before .before .before .before .before .pre) .1 .1 .1) (kept-done _ _ _ _ _ _ _ _ _ _ (c .before .before .before .before .before .before .before .before .before .before .before .before .before .before .before .before .before .before .mark-kept .ensures) ((c .before .before .before .before .before .before .before .before .before .before .kept .given) .1) .scanned .marks-length) (c .before .before .before .before .before .before .finalize .ensures)
+sweep-requires c κs = finalized-sweepable _ ((c .before .before .before .before .before .before .before .before .before .before .before .before .before .before .before .before .before .before .before .before .before .before .before .before .before .before .before .before .before .before .before .before .before .before .pre) .1 .1 .1 .0) (kept-done _ _ _ _ _ _ _ _ _ _ (c .before .before .before .before .before .before .before .before .before .before .before .before .before .before .before .before .before .before .mark-kept .ensures) ((c .before .before .before .before .before .before .before .before .before .before .kept .given) .1) .scanned .marks-length) (c .before .before .before .before .before .before .finalize .ensures)
 
 -- src/lib.rt:159:5
 unmark-requires : tie.Need-unmark-requires

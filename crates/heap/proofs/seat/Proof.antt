@@ -1,6 +1,6 @@
 -- `heap::seat` meets its contract. Assumes nothing.
 use native.Mathlib.Omega.{arith}
-use Rattle.heap.proofs.PlaceLaws.{flag-max}
+use Rattle.heap.proofs.PlaceLaws.{coroutine-max, flag-max}
 use Rattle.heap.proofs.SeatLaws.{seat-charged, seat-half, seat-slot, seats}
 use borrow.Author.Needs.{needs}
 use Rattle.heap.proofs.seat.Statement.{statement}
@@ -33,17 +33,23 @@ add-h c = omega (arith, (c .before .before .before .before .before .before .befo
 add-h-2 : tie.Need-add-h-2
 add-h-2 c = omega (arith, (c .before .before .before .before .before .before .before .before .before .before .before .before .before .before .before .before .before .pre .present))
 
+coroutine-of-requires : tie.Need-coroutine-of-requires
+coroutine-of-requires c κs = search needs
+
+add-h-3 : tie.Need-add-h-3
+add-h-3 c = omega (arith, (c .before .before .before .before .before .before .before .before .before .before .before .before .before .before .before .before .before .before .before .pre .coroutines), (c .before .coroutine-of .ensures), coroutine-max (c .before .before .before .before .before .before .before .before .before .before .before .before .before .before .before .before .before .before .before .args .header .kind))
+
 mul-t16 : tie.Need-mul-t16
-mul-t16 c = omega (arith, seat-half (c .before .before .before .before .before .before .before .before .before .before .before .before .before .before .before .before .before .before .pre) (c .before .before .before .before .before .before .before .before .take-slot .ensures) (rw (c .before .before .before .before .before .before .before .before .before .flag-of .ensures) (flag-max (c .before .before .before .before .before .before .before .before .before .before .before .before .before .before .before .before .before .before .args .header .kind))))
+mul-t16 c = omega (arith, seat-half (c .before .before .before .before .before .before .before .before .before .before .before .before .before .before .before .before .before .before .before .before .pre) (c .before .before .before .before .before .before .before .before .before .before .take-slot .ensures) (rw (c .before .before .before .before .before .before .before .before .before .before .before .flag-of .ensures) (flag-max (c .before .before .before .before .before .before .before .before .before .before .before .before .before .before .before .before .before .before .before .before .args .header .kind))))
 
 add-t21 : tie.Need-add-t21
-add-t21 c = omega (arith, seat-half (c .before .before .before .before .before .before .before .before .before .before .before .before .before .before .before .before .before .before .before .pre) (c .before .before .before .before .before .before .before .before .before .take-slot .ensures) (rw (c .before .before .before .before .before .before .before .before .before .before .flag-of .ensures) (flag-max (c .before .before .before .before .before .before .before .before .before .before .before .before .before .before .before .before .before .before .before .args .header .kind))), seat-slot (c .before .before .before .before .before .before .before .before .before .before .before .before .before .before .before .before .before .before .before .pre) (c .before .before .before .before .before .before .before .before .before .take-slot .ensures) .0)
+add-t21 c = omega (arith, seat-half (c .before .before .before .before .before .before .before .before .before .before .before .before .before .before .before .before .before .before .before .before .before .pre) (c .before .before .before .before .before .before .before .before .before .before .before .take-slot .ensures) (rw (c .before .before .before .before .before .before .before .before .before .before .before .before .flag-of .ensures) (flag-max (c .before .before .before .before .before .before .before .before .before .before .before .before .before .before .before .before .before .before .before .before .before .args .header .kind))), seat-slot (c .before .before .before .before .before .before .before .before .before .before .before .before .before .before .before .before .before .before .before .before .before .pre) (c .before .before .before .before .before .before .before .before .before .before .before .take-slot .ensures) .0)
 
 same-length : tie.Need-same-length
 same-length c = search needs
 
 returns-2 : tie.Need-returns-2
-returns-2 c = seats _ _ _ (c .before .before .before .before .before .before .before .before .before .take-slot .ensures) (c .before .before .before .before .before .before .before .before .before .before .flag-of .ensures) (c .before .before .before .before .before .before .before .before .before .before .before .before .before .before .before .charge .ensures) ((c .before .before .before .before .before .before .before .before .before .before .before .before .before .next .given) .1) (c .before .before .before .before .before .before .before .write-header .ensures)
+returns-2 c = seats _ _ _ (c .before .before .before .before .before .before .before .before .before .before .before .take-slot .ensures) (c .before .before .before .before .before .before .before .before .before .before .before .before .flag-of .ensures) (c .before .before .before .coroutine-of .ensures) (c .before .before .before .before .before .before .before .before .before .before .before .before .before .before .before .before .before .charge .ensures) ((c .before .before .before .before .before .before .before .before .before .before .before .before .before .before .before .next .given) .1) (c .before .before .before .before .before .before .before .before .before .write-header .ensures)
 
 pub seat-spec : {M : Type 1} → statement M
 seat-spec =
@@ -58,6 +64,8 @@ seat-spec =
     write-header-requires
     add-h
     add-h-2
+    coroutine-of-requires
+    add-h-3
     mul-t16
     add-t21
     same-length
