@@ -1,4 +1,5 @@
-//! The library's calls in loops (crate heap_bench) against the same loops over the originals, compiled unchanged.
+//! The library's calls in loops (crate heap_bench, or with cfg through_capi one call of libcapi.a each) against the same loops over the
+//! originals, compiled unchanged.
 //! `bench ROUNDS [DOCS]`: prints `ratio NAME X`, our time by the original's, the median over the rounds; with DOCS it writes the table
 //! and the plot there. ONLY=TEXT in the environment: only the workloads whose names have this text, and nothing is written.
 #![allow(dead_code, unused_imports)]
@@ -16,9 +17,11 @@ mod hash;
 mod heap;
 #[path = "seed/int.rs"]
 mod int;
+mod lent;
 mod machine;
 #[path = "seed/map.rs"]
 mod map;
+#[cfg_attr(through_capi, path = "capi.rs")]
 mod ours;
 mod page;
 mod program;
@@ -99,7 +102,7 @@ fn main() {
     let only = std::env::var("ONLY").unwrap_or_default();
     rust::keep_memory();
     let load = work::Load::new();
-    let mut ours = ours::Ours::new();
+    let mut ours = lent::Lent::new();
     let mut original = rust::Original::new();
     let mut measured = vec![];
     for w in work::ALL.iter().filter(|w| w.name.contains(&only)) {

@@ -1,5 +1,6 @@
 //! The library, through the loops of crate heap_bench, over lent buffers at full size.
 use crate::Side;
+use crate::lent::{Lent, SLOTS};
 use crate::work::WEIGHTS;
 
 type P = *const u64;
@@ -25,42 +26,6 @@ unsafe extern "C" {
     fn heap_bench_collect(heap: M, slots: M, s: usize, scalars: M, x: usize, list: M, f: usize, directory: P, d: usize, cells: P, c: usize, layout: *const u8, l: usize, table: P, t: usize, marks: *mut u8, m: usize, order: *mut u32, o: usize, roots: P, r: usize, places: M, p: usize) -> u64;
 }
 
-pub const SLOTS: usize = 65_536;
-pub const CELLS: usize = 1_048_576;
-
-/// The record and the buffers, made once; every opening takes them as they are.
-pub struct Ours {
-    heap: [u64; 19],
-    slots: Vec<u64>,
-    scalars: Vec<u64>,
-    list: Vec<u64>,
-    directory: Vec<u64>,
-    cells: Vec<u64>,
-    layout: Vec<u8>,
-    table: Vec<u64>,
-    marks: Vec<u8>,
-    order: Vec<u32>,
-    places: Vec<u64>,
-}
-
-impl Ours {
-    pub fn new() -> Ours {
-        Ours {
-            heap: [0; 19],
-            slots: vec![1; SLOTS * 8],
-            scalars: vec![1; SLOTS * 8],
-            list: vec![1; SLOTS],
-            directory: vec![1; SLOTS * 2],
-            cells: vec![1; CELLS],
-            layout: vec![0],
-            table: vec![1; 514],
-            marks: vec![1; SLOTS],
-            order: vec![1; SLOTS * 2],
-            places: vec![1; 64],
-        }
-    }
-}
-
 /// The pointers and lengths of the five buffers, shared or to be written.
 macro_rules! call {
     ($f:ident, $s:ident, $heap:ident, $a:ident $b:ident $c:ident $d:ident $e:ident, $($x:expr),*) => {
@@ -69,7 +34,7 @@ macro_rules! call {
     };
 }
 
-impl Side for Ours {
+impl Side for Lent {
     fn open(&mut self) {
         let r = unsafe {
             heap_bench_open(self.heap.as_mut_ptr(), SLOTS as u64, 1 << 40, WEIGHTS.as_ptr(), self.layout.as_ptr(), self.layout.len(), self.table.as_mut_ptr(), self.table.len(),

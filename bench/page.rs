@@ -1,10 +1,13 @@
-//! The table and the plot: the part of DOCS/BENCHMARKS.md between the two markers, and DOCS/benchmarks.svg.
+//! The table and the plot: the part of DOCS/BENCHMARKS.md between the two markers, and DOCS/benchmarks.svg; a run through libcapi.a has a
+//! part of its own, and no plot.
 use crate::{Measured, median};
 use std::fmt::Write as _;
 use std::fs;
 
-const BEGIN: &str = "<!-- bench/run: written by the program -->";
-const END: &str = "<!-- bench/run: end -->";
+const CAPI: bool = cfg!(through_capi);
+const BEGIN: &str = if CAPI { "<!-- bench/run, LIBRARY=capi: written by the program -->" } else { "<!-- bench/run: written by the program -->" };
+const END: &str = if CAPI { "<!-- bench/run, LIBRARY=capi: end -->" } else { "<!-- bench/run: end -->" };
+const PLOT: &str = if CAPI { "" } else { "![Our time by the original's](benchmarks.svg)\n\n" };
 
 pub fn write(docs: &str, rounds: usize, all: &[Measured]) {
     let page = format!("{docs}/BENCHMARKS.md");
@@ -14,7 +17,9 @@ pub fn write(docs: &str, rounds: usize, all: &[Measured]) {
         _ => format!("{}\n{}\n", old.trim_end(), section(rounds, all)),
     };
     fs::write(&page, new).expect("BENCHMARKS.md is written");
-    fs::write(format!("{docs}/benchmarks.svg"), plot(all)).expect("benchmarks.svg is written");
+    if !CAPI {
+        fs::write(format!("{docs}/benchmarks.svg"), plot(all)).expect("benchmarks.svg is written");
+    }
 }
 
 fn machine() -> String {
@@ -24,7 +29,8 @@ fn machine() -> String {
 
 fn section(rounds: usize, all: &[Measured]) -> String {
     let mut s = format!("{BEGIN}\n\n{}, {rounds} rounds. Times are the thread's processor time, medians in microseconds; the ratio is the median of the rounds' ratios.\n\n", machine());
-    s.push_str("![Our time by the original's](benchmarks.svg)\n\n| workload | what is timed | ours | Rust | ratio |\n|---|---|---:|---:|---:|\n");
+    s.push_str(PLOT);
+    s.push_str("| workload | what is timed | ours | Rust | ratio |\n|---|---|---:|---:|---:|\n");
     for m in all {
         let _ = writeln!(s, "| `{}` | {} | {:.0} | {:.0} | {:.2} |", m.name, m.what, median(m.ours.clone()), median(m.original.clone()), m.ratio());
     }

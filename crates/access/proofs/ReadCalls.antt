@@ -6,7 +6,7 @@ use mathlib.Core.Option.{some}
 use lib.IntN.{ℤ}
 use lib.ListN.{getD, length}
 use Rattle.slots.specs.Header.{headerAt, scalarsAt}
-use Rattle.slots.specs.Signed.{signed64}
+use Rattle.words.specs.Word.{signedBits}
 use Rattle.slots.specs.declared.Header.{Header}
 use Rattle.slots.specs.declared.Scalars.{Scalars}
 use Rattle.cells.specs.Regions.{rawAt}
@@ -161,9 +161,9 @@ module _ {t : State} {w : ℕ} {r : Reading} (g : Good t) where
 -- ---- an integer; yes or no
 
 module _ {t : State} {w i : ℕ} {r : Located} (g : Good t) where
-  pub integer-read : {h : Header} {z : ℤ} → Locates (t .slots) (t .heap .fresh) w 2 r → r ≡ L.At i → h ≡ headerAt (t .slots) i → z ≡ signed64 (h .value) → Reads (Calls.read-integer w) t (answered (signed z))
+  pub integer-read : {h : Header} {z : ℤ} → Locates (t .slots) (t .heap .fresh) w 2 r → r ≡ L.At i → h ≡ headerAt (t .slots) i → z ≡ signedBits (h .value) → Reads (Calls.read-integer w) t (answered (signed z))
   unfolding terms effect rawAt
-  integer-read d e p q = reads-answered g says-integer (Calls.read-integer w) d e (λ l. refl) (λ l. refl) (λ l o. reads-integer l nothing (λ z. signed z) o ∙ ap signed (sym (q ∙ ap (λ (h : Header). signed64 (h .value)) p)))
+  integer-read d e p q = reads-answered g says-integer (Calls.read-integer w) d e (λ l. refl) (λ l. refl) (λ l o. reads-integer l nothing (λ z. signed z) o ∙ ap signed (sym (q ∙ ap (λ (h : Header). signedBits (h .value)) p)))
 
   pub import-read : {h : Header} → Locates (t .slots) (t .heap .fresh) w 9 r → r ≡ L.At i → h ≡ headerAt (t .slots) i → Reads (Calls.is-import w) t (answered (truth (yes (h .mode))))
   unfolding terms effect rawAt

@@ -287,7 +287,7 @@ pub fn read_integer(
         Located::Refused(q) => Signed::Refused(q),
         Located::At(i) => {
             let h = slots::read_header(slots, i);
-            Signed::Is(slots::signed_of(h.value))
+            Signed::Is(words::signed_of(h.value))
         }
     }
 }

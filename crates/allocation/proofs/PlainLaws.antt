@@ -8,10 +8,10 @@ use mir.Syntax.{w64}
 use mir.Val.{SFits}
 use Rattle.account.specs.Account.{saturated}
 use Rattle.account.specs.AccountLaws.{saturated-below}
-use Rattle.slots.specs.Signed.{bits64}
+use Rattle.words.specs.Word.{bitsOfSigned}
 use Rattle.slots.specs.declared.Header.{Header}
 use Rattle.slots.specs.declared.Scalars.{Scalars}
-use Rattle.slots.proofs.SignedLaws.{signed-bits}
+use Rattle.words.proofs.Signed64.{signed-bits}
 use Rattle.model.specs.Calls as Calls
 use Rattle.model.specs.Calls.{Call, effect, noRoom}
 use Rattle.model.specs.Content.{Content, bytesOf, cellsOf}
@@ -48,7 +48,7 @@ module _ {t a : State} {h : Header} {r : Reading} (g : Good t) where
       (λ e. record { some-kind = λ z. absurd (omega (arith, z)); fit = new-good (headerOf kind value mode 0 0) [] _ (omega arith) (omega arith) (λ z. absurd (omega (arith, z))) (λ l z. refl) (λ l z ne. absurd (omega (arith, l))) (λ z. absurd (omega (arith, z))) (λ z. absurd (omega (arith, z))) (λ z. absurd (omega (arith, z))); content = content _; room = room-none _ (λ z. absurd (omega (arith, z))) (λ z. absurd (omega (arith, z))) })
       d′
 
-  pub integer-made : {z : ℤ} {v : ℕ} → SFits w64 z → v ≡ bits64 z → h ≡ headerOf 2 v 0 0 0 → MadePlain t t h (t .heap .weights .slot) r a → Performs (Calls.new-integer z) t (madeIs r) a
+  pub integer-made : {z : ℤ} {v : ℕ} → SFits w64 z → v ≡ bitsOfSigned z → h ≡ headerOf 2 v 0 0 0 → MadePlain t t h (t .heap .weights .slot) r a → Performs (Calls.new-integer z) t (madeIs r) a
   unfolding effect terms bytesOf cellsOf
   integer-made {z} {v} f v-is h-is d =
       four 2 v 0 (makes (λ l. []) (λ l. refl) (λ l. refl) (λ l. first-none)) (omega arith) (omega arith) h-is

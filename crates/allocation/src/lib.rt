@@ -126,7 +126,7 @@ pub fn new_integer(
     ensures { λ r. ⌜ Performs (Calls.new-integer z) (state heap (now (slots .entry)) (now (scalars .entry)) (now (list .entry)) (now (directory .entry)) (now (cells .entry))) (madeIs (r .answer)) (state (r .heap) (now (slots .exit)) (now (scalars .entry)) (now (list .entry)) (now (directory .entry)) (now (cells .entry))) ⌝ }
 {
     let weights = heap.weights;
-    let h = header(INTEGER, slots::bits_of(z), 0, 0, 0);
+    let h = header(INTEGER, words::bits_of(z), 0, 0, 0);
     new_plain(
         heap,
         slots,

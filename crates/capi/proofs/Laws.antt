@@ -1,35 +1,27 @@
 -- From what a call below promises to what it promises of the words. Assumes nothing.
 use Prim.Native.Nat.{ℕ}
 use mathlib.Core.Path.{_≡_, ap, refl, subst, sym, _∙_}
-use mathlib.Core.Bool.{Bool, true, false}
 use mathlib.Core.List.{List, []}
-use native.Mathlib.Omega.{arith}
-use lib.Dec.{eqb}
 use Rattle.layout.specs.Layout.{Layout}
 use Rattle.model.specs.Calls as Calls
 use Rattle.model.specs.Calls.{Call, effect, same}
 use Rattle.model.specs.Model.{Model, viewOf}
-use Rattle.model.specs.Opening.{Opening}
 use Rattle.model.specs.Refusals.{added, budget, slotless}
-use Rattle.model.specs.Replies.{Lent, Reply, list}
+use Rattle.model.specs.Replies.{Reply, list}
 use Rattle.model.specs.Step.{step}
 use Rattle.model.specs.Terms.{terms, uncharged}
 use Rattle.model.specs.declared.Frame.{Frame}
 use Rattle.history.proofs.Judging.{no-cells-added, says-none}
 use Rattle.history.proofs.Lift.{Seen, seen, step-reads}
 use Rattle.map_store.specs.Store.{Cursor}
-use Rattle.heap.specs.State.{State, modelOf, state}
-use Rattle.heap.specs.Answers.{answered, numberOf, readingIs}
+use Rattle.heap.specs.State.{State, state}
+use Rattle.heap.specs.Answers.{answered, readingIs}
 use Rattle.heap.specs.Good.{Good, Rested}
-use Rattle.heap.specs.Opens.{Beside, Opens, accepts, openedBy, openedNumber}
 use Rattle.heap.specs.Promise.{Does, Performs}
 use Rattle.heap.specs.declared.Heap.{Heap}
-use Rattle.heap.specs.declared.Opened.{Opened}
-use Rattle.heap.specs.declared.Opened.the-variants.{Ready, Refused}
+use Rattle.heap.specs.declared.Opened.the-variants.{Refused}
 use Rattle.heap.specs.declared.Reading.{Reading}
 use Rattle.heap.specs.declared.Reading.the-variants as Read
-use Rattle.heap.specs.declared.Refusal.{Refusal}
-use Rattle.heap.specs.declared.Refusal.the-variants.{BadOpening}
 use Rattle.heap.proofs.DoesLaws.{first-none}
 use Rattle.access.specs.Answers.{lentReading}
 use Rattle.allocation.specs.Coroutines.{callOf}
@@ -43,9 +35,9 @@ use Rattle.commands.specs.declared.Shown.{Shown}
 use Rattle.commands.specs.Promise.{ShowsCall}
 use Rattle.commands.specs.Shows.{answerShown, replyShown, shownOf, withLent}
 use Rattle.commands.proofs.PerformedLaws.{shown-refusal}
-use Rattle.record.specs.Record.{OpensWords, loaded, openedIn}
+use Rattle.record.specs.Record.{loaded}
 use Rattle.capi.specs.Record.{cursorOut}
-use Rattle.capi.specs.Promise.{Settles, ShowsList}
+use Rattle.capi.specs.Promise.{ShowsList}
 
 shows-does : {l : Layout} {k : Call} {b a : State} {o : Seen} {s : Shown} → Does l k b o a → s ≡ shownOf o → ShowsCall l k b s a
 shows-does {o = o} d e = record {
@@ -70,7 +62,7 @@ module _ {slots scalars list directory cells : List ℕ} where
       let from = subst (λ (x : Heap). Does l k (state x slots scalars list directory cells) o (state h′ slots′ scalars′ list′ directory′ cells′)) e d in
       subst (λ (x : Heap). Does l k (state g slots scalars list directory cells) o (state x slots′ scalars′ list′ directory′ cells′)) (sym f) from
 
-  -- s: what is shown; t: the words told of it
+  -- s: what is shown; t: the words shownIn of it
   pub performs : {slots′ scalars′ list′ directory′ cells′ : List ℕ} {h g h′ g′ : Heap} {k : Call} {o : Seen} {s t : Shown} → h ≡ g → g′ ≡ h′
       → Performs k (state h slots scalars list directory cells) o (state h′ slots′ scalars′ list′ directory′ cells′) → s ≡ shownOf o → t ≡ s
       → (l : Layout) → ShowsCall l k (state g slots scalars list directory cells) t (state g′ slots′ scalars′ list′ directory′ cells′)
@@ -139,19 +131,3 @@ unfolding seen uncharged budget slotless added
 word-told m k a f h q u =
     let p = step-reads m k (says-none m (terms m k) (effect (viewOf m) k) (rw h first-none) (rw h) (rw f) (rw f (no-cells-added m 0 refl))) f (rw h) in
     u ∙ q ∙ rw (p, h)
-
--- ---- opening
-
-refused-so : (b : Bool) (h : Heap) (q : Refusal) → Refused q ≡ openedBy b h → q ≡ BadOpening
-unfolding openedBy
-refused-so true h q e = let z : _≡_ {A = ℕ} 0 1 = cc in absurd (omega arith)
-refused-so false h q e = cc
-
-pub opens-words : {o : Opening} {t : State} {x y : Beside} (a : Opened) {before after : List ℕ} {r : ℕ} → Opens o t x a y → Settles a before r after → OpensWords o t x before r after y
-unfolding Settles openedIn openedNumber numberOf
-opens-words {o} {t} {x} {y} (Ready h) {after = after} p s =
-    let e : openedIn 0 after ≡ Ready h = ap Ready (s .1) in
-    rw (s .0) record { opens = subst (λ (a : Opened). Opens o t x a y) (sym e) p; returned = refl; kept = λ n. absurd (n refl) }
-opens-words {o} {t} {x} {y} (Refused q) p s =
-    let b : q ≡ BadOpening = refused-so (accepts o t x) (t .heap) q (p .answer) in
-    rw (s .0, b) record { opens = subst (λ (a : Opened). Opens o t x a y) (ap Refused b) p; returned = refl; kept = λ n. s .1 }

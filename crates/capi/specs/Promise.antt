@@ -9,14 +9,11 @@ use Rattle.model.specs.Replies.{list}
 use Rattle.model.specs.Step.{step}
 use Rattle.history.proofs.Lift.{seen}
 use Rattle.heap.specs.State.{State, modelOf, state}
-use Rattle.heap.specs.Answers.{numberOf}
-use Rattle.heap.specs.declared.Opened.{Opened}
-use Rattle.heap.specs.declared.Opened.the-variants.{Ready, Refused}
 use Rattle.commands.specs.declared.Shown.{Shown}
 use Rattle.commands.specs.Promise.{ShowsCall}
 use Rattle.commands.specs.Shows.{shownOf}
 use Rattle.record.specs.Record.{loaded}
-use Rattle.capi.specs.Record.{told}
+use Rattle.capi.specs.Record.{shownIn}
 
 -- the state of a heap whose record is kept as words
 abbrev pub holds : List ℕ → List ℕ → List ℕ → List ℕ → List ℕ → List ℕ → State
@@ -24,7 +21,7 @@ holds h s x f d c = state (loaded h) s x f d c
 
 -- the call k on the state b left the state a, returned r and answered these words, whatever the layout is
 abbrev pub Performs : Call → State → ℕ → List ℕ → State → Type 0
-Performs k b r answer a = (l : Layout) → ShowsCall l k b (told r answer) a
+Performs k b r answer a = (l : Layout) → ShowsCall l k b (shownIn r answer) a
 
 -- a reading leaves the record and every buffer as they were
 abbrev pub Reads : Call → State → ℕ → List ℕ → Type 0
@@ -32,16 +29,9 @@ Reads k t r answer = Performs k t r answer t
 
 -- a call on words alone shows the same on every heap
 abbrev pub Words : Call → ℕ → List ℕ → Type 0
-Words k r answer = (m : Model) → told r answer ≡ shownOf (seen (step m k))
+Words k r answer = (m : Model) → shownIn r answer ≡ shownOf (seen (step m k))
 
 -- a call that is lent a list, and leaves it as ws
 pub record ShowsList (l : Layout) (k : Call) (b : State) (s : Shown) (ws : List ℕ) (a : State) : Type 0 where
   pub call : ShowsCall l k b s a
   pub lent : list ws ≡ (step (modelOf l b) k) .lent
-
--- ---- opening
-
--- the words before and after, and the number returned
-unfoldable pub Settles : Opened → List ℕ → ℕ → List ℕ → Type 0
-Settles (Ready h) before r after = (r ≡ 0) × (loaded after ≡ h)
-Settles (Refused q) before r after = (r ≡ numberOf q) × (after ≡ before)

@@ -10,8 +10,8 @@ use Rattle.commands.specs.declared.Shown.{Shown}
 use Rattle.map_store.specs.Store.{Cursor}
 
 -- the number returned and the six words of the answer
-abbrev pub told : ℕ → List ℕ → Shown
-told r ws = record { refusal = r; word = getD ws 0 0; x = getD ws 1 0; y = getD ws 2 0; z = getD ws 3 0; u = getD ws 4 0; v = getD ws 5 0 }
+abbrev pub shownIn : ℕ → List ℕ → Shown
+shownIn r ws = record { refusal = r; word = getD ws 0 0; x = getD ws 1 0; y = getD ws 2 0; z = getD ws 3 0; u = getD ws 4 0; v = getD ws 5 0 }
 
 -- a number as yes or no
 abbrev pub yes : ℕ → Bool

@@ -4,10 +4,8 @@
 use allocation::Coroutine;
 use commands::Shown;
 use heap::Heap;
-use heap::Opened;
 use map_store::Cursor;
 use map_store::Last;
-use model::Weights;
 ghost use mathlib.Core.Path.{_≡_};
 ghost use Prim.Native.Nat.{_/_, _%_};
 ghost use lib.Ieee.{ofBits, binary64};
@@ -23,29 +21,17 @@ ghost use Rattle.heap.specs.Kinds.{framesIn};
 ghost use Rattle.heap.specs.Opens.{beside, newHeap, openingOf};
 ghost use Rattle.allocation.specs.Coroutines.{callOf};
 ghost use Rattle.record.specs.Record.{OpensWords, loaded, weightsIn};
-ghost use Rattle.capi.specs.Record.{coroutineIn, cursorIn, cursorOut, told, yes};
-ghost use Rattle.capi.specs.Promise.{Performs, Reads, Settles, ShowsList, Words, holds};
+ghost use Rattle.capi.specs.Record.{coroutineIn, cursorIn, cursorOut, shownIn, yes};
+ghost use Rattle.capi.specs.Promise.{Performs, Reads, ShowsList, Words, holds};
 
 // ---- the words lent
 
 // Writes the answer's words; the refusal's number is returned.
-fn tell(answer: &mut [u64; 6], s: Shown) -> u64
-    ensures { λ r. ⌜ told r (now (answer .exit)) ≡ s ⌝ }
+fn write_answer(answer: &mut [u64; 6], s: Shown) -> u64
+    ensures { λ r. ⌜ shownIn r (now (answer .exit)) ≡ s ⌝ }
 {
     *answer = [s.word, s.x, s.y, s.z, s.u, s.v];
     s.refusal
-}
-
-fn load_weights(words: &[u64; 5]) -> Weights
-    ensures { λ r. ⌜ r ≡ weightsIn (now (words .entry)) ⌝ }
-{
-    Weights {
-        slot: words[0],
-        entry: words[1],
-        iterator: words[2],
-        coroutine: words[3],
-        frame: words[4],
-    }
 }
 
 fn load_coroutine(words: &[u64; 6]) -> Coroutine
@@ -89,19 +75,6 @@ fn save_cursor(words: &mut [u64; 4], s: Shown)
     }
 }
 
-// Keeps the record of a heap that was opened.
-fn settle(words: &mut [u64; 19], opened: Opened) -> u64
-    ensures { λ r. ⌜ Settles opened (now (words .entry)) r (now (words .exit)) ⌝ }
-{
-    match opened {
-        Opened::Ready(heap) => {
-            record::save(words, heap);
-            0
-        }
-        Opened::Refused(q) => commands::number_of(q),
-    }
-}
-
 // ---- words: writing, reading, comparing; no heap is needed
 
 // The word of a truth value: no for 0, else yes.
@@ -109,7 +82,7 @@ fn settle(words: &mut [u64; 19], opened: Opened) -> u64
 pub extern "C" fn mch_truth_word(b: u64, answer: &mut [u64; 6]) -> u64
     ensures { λ r. ⌜ Words (Calls.truth-word (yes b)) r (now (answer .exit)) ⌝ }
 {
-    tell(answer, commands::number(words::from_bool(b != 0)))
+    write_answer(answer, commands::number(words::from_bool(b != 0)))
 }
 
 // The word of a character.
@@ -117,7 +90,7 @@ pub extern "C" fn mch_truth_word(b: u64, answer: &mut [u64; 6]) -> u64
 pub extern "C" fn mch_char_word(c: u32, answer: &mut [u64; 6]) -> u64
     ensures { λ r. ⌜ Words (Calls.char-word c) r (now (answer .exit)) ⌝ }
 {
-    tell(answer, commands::number(words::from_char(c)))
+    write_answer(answer, commands::number(words::from_char(c)))
 }
 
 // The word of the float of a binary64 pattern; every NaN has one word.
@@ -126,7 +99,7 @@ pub extern "C" fn mch_float_word(bits: u64, answer: &mut [u64; 6]) -> u64
     ensures { λ r. ⌜ Words (Calls.float-word (ofBits binary64 bits)) r (now (answer .exit)) ⌝ }
 {
     let f = words::float_of_bits(bits);
-    tell(answer, commands::number(words::from_f64(f)))
+    write_answer(answer, commands::number(words::from_f64(f)))
 }
 
 // The word of an integer, where it has one inline.
@@ -135,7 +108,7 @@ pub extern "C" fn mch_integer_word(z: i64, answer: &mut [u64; 6]) -> u64
     ensures { λ r. ⌜ Words (Calls.integer-word z) r (now (answer .exit)) ⌝ }
 {
     let w = words::inline_int(z);
-    tell(answer, commands::inline(w))
+    write_answer(answer, commands::inline(w))
 }
 
 // The word of a reference.
@@ -143,7 +116,7 @@ pub extern "C" fn mch_integer_word(z: i64, answer: &mut [u64; 6]) -> u64
 pub extern "C" fn mch_reference_word(slot: u32, tag: u16, answer: &mut [u64; 6]) -> u64
     ensures { λ r. ⌜ Words (Calls.reference-word slot tag) r (now (answer .exit)) ⌝ }
 {
-    tell(answer, commands::number(words::from_ref(slot, tag)))
+    write_answer(answer, commands::number(words::from_ref(slot, tag)))
 }
 
 // What a word reads as.
@@ -152,7 +125,7 @@ pub extern "C" fn mch_read_word(w: u64, answer: &mut [u64; 6]) -> u64
     ensures { λ r. ⌜ Words (Calls.read-word w) r (now (answer .exit)) ⌝ }
 {
     let a = words::decode(w);
-    tell(answer, commands::raw(a))
+    write_answer(answer, commands::raw(a))
 }
 
 // Whether two words read as the same.
@@ -160,7 +133,7 @@ pub extern "C" fn mch_read_word(w: u64, answer: &mut [u64; 6]) -> u64
 pub extern "C" fn mch_same_words(a: u64, b: u64, answer: &mut [u64; 6]) -> u64
     ensures { λ r. ⌜ Words (Calls.same-words a b) r (now (answer .exit)) ⌝ }
 {
-    tell(answer, commands::flag(words::same(a, b)))
+    write_answer(answer, commands::flag(words::same(a, b)))
 }
 
 // ---- the heap as a whole
@@ -185,11 +158,11 @@ pub extern "C" fn mch_open(
 ) -> u64
     ensures { λ r. ⌜ OpensWords (openingOf size (length (now (cells .entry))) limit (weightsIn (now (weights .entry))) (now (layout .entry))) (state (newHeap size limit (weightsIn (now (weights .entry)))) (now (slots .entry)) (now (scalars .entry)) (now (list .entry)) (now (directory .entry)) (now (cells .entry))) (beside (now (table .entry)) (now (marks .entry)) (now (order .entry))) (now (heap .entry)) r (now (heap .exit)) (beside (now (table .exit)) (now (marks .exit)) (now (order .exit))) ⌝ }
 {
-    let w = load_weights(weights);
-    let opened = heap::open(
+    record::open(
+        heap,
         size,
         limit,
-        w,
+        weights,
         layout,
         table,
         marks,
@@ -199,8 +172,7 @@ pub extern "C" fn mch_open(
         list,
         directory,
         cells,
-    );
-    settle(heap, opened)
+    )
 }
 
 // A charge of `bytes`, without an object.
@@ -223,7 +195,7 @@ pub extern "C" fn mch_charge(
     let next = a.heap;
     record::save(heap, next);
     let done = a.done;
-    tell(answer, commands::done(done))
+    write_answer(answer, commands::done(done))
 }
 
 // Whether a charge of `bytes` would be accepted.
@@ -243,7 +215,7 @@ pub extern "C" fn mch_fits(
 {
     let h = record::load(heap);
     let a = heap::fits(h, slots, scalars, list, directory, cells, bytes);
-    tell(answer, commands::flag(a))
+    write_answer(answer, commands::flag(a))
 }
 
 // Whether a collection is due before `extra` bytes more.
@@ -263,7 +235,7 @@ pub extern "C" fn mch_wants_gc(
 {
     let h = record::load(heap);
     let a = heap::wants_gc(h, slots, scalars, list, directory, cells, extra);
-    tell(answer, commands::flag(a))
+    write_answer(answer, commands::flag(a))
 }
 
 // How many collections there have been.
@@ -282,7 +254,7 @@ pub extern "C" fn mch_collection_count(
 {
     let h = record::load(heap);
     let a = heap::collection_count(h, slots, scalars, list, directory, cells);
-    tell(answer, commands::number(a))
+    write_answer(answer, commands::number(a))
 }
 
 // How many objects the collections have freed.
@@ -301,7 +273,7 @@ pub extern "C" fn mch_freed_count(
 {
     let h = record::load(heap);
     let a = heap::freed_count(h, slots, scalars, list, directory, cells);
-    tell(answer, commands::number(a))
+    write_answer(answer, commands::number(a))
 }
 
 // The bytes charged and not freed.
@@ -320,7 +292,7 @@ pub extern "C" fn mch_used_bytes(
 {
     let h = record::load(heap);
     let a = heap::used_bytes(h, slots, scalars, list, directory, cells);
-    tell(answer, commands::number(a))
+    write_answer(answer, commands::number(a))
 }
 
 // How many objects are present.
@@ -339,7 +311,7 @@ pub extern "C" fn mch_present_count(
 {
     let h = record::load(heap);
     let a = heap::present_count(h, slots, scalars, list, directory, cells);
-    tell(answer, commands::number(a))
+    write_answer(answer, commands::number(a))
 }
 
 // The cells of the objects present.
@@ -358,7 +330,7 @@ pub extern "C" fn mch_cells_in_use(
 {
     let h = record::load(heap);
     let a = heap::cells_in_use(h, slots, scalars, list, directory, cells);
-    tell(answer, commands::number(a))
+    write_answer(answer, commands::number(a))
 }
 
 // A collection from these roots: answers the objects freed and the coroutines listed in `places`.
@@ -381,7 +353,7 @@ pub extern "C" fn mch_collect(
     requires good { ⌜ Good (holds (now heap) (now slots) (now scalars) (now list) (now directory) (now cells)) ⌝ }
     requires tabled { ⌜ Tabled (now layout) (now table) ⌝ }
     requires rested { ⌜ Rested (loaded (now heap) .size) (now marks) (now order) ⌝ }
-    ensures { λ r. ⌜ ShowsList (layoutOf (now (layout .entry))) (Calls.collect (now (roots .entry)) (now (places .entry))) (holds (now (heap .entry)) (now (slots .entry)) (now (scalars .entry)) (now (list .entry)) (now (directory .entry)) (now (cells .entry))) (told r (now (answer .exit))) (now (places .exit)) (holds (now (heap .exit)) (now (slots .exit)) (now (scalars .exit)) (now (list .exit)) (now (directory .entry)) (now (cells .entry))) ⌝ }
+    ensures { λ r. ⌜ ShowsList (layoutOf (now (layout .entry))) (Calls.collect (now (roots .entry)) (now (places .entry))) (holds (now (heap .entry)) (now (slots .entry)) (now (scalars .entry)) (now (list .entry)) (now (directory .entry)) (now (cells .entry))) (shownIn r (now (answer .exit))) (now (places .exit)) (holds (now (heap .exit)) (now (slots .exit)) (now (scalars .exit)) (now (list .exit)) (now (directory .entry)) (now (cells .entry))) ⌝ }
     ensures { λ r. ⌜ now (marks .exit) ≡ now (marks .entry) ⌝ }
     ensures { λ r. ⌜ now (order .exit) ≡ now (order .entry) ⌝ }
 {
@@ -403,7 +375,7 @@ pub extern "C" fn mch_collect(
     let next = a.heap;
     record::save(heap, next);
     let collection = a.answer;
-    tell(answer, commands::collected(collection))
+    write_answer(answer, commands::collected(collection))
 }
 
 // ---- new objects: each answers the reference made
@@ -428,7 +400,7 @@ pub extern "C" fn mch_new_string(
     let next = a.heap;
     record::save(heap, next);
     let made = a.answer;
-    tell(answer, commands::made(made))
+    write_answer(answer, commands::made(made))
 }
 
 // An integer object.
@@ -451,7 +423,7 @@ pub extern "C" fn mch_new_integer(
     let next = a.heap;
     record::save(heap, next);
     let made = a.answer;
-    tell(answer, commands::made(made))
+    write_answer(answer, commands::made(made))
 }
 
 // A cell of type `t` with the word `w`.
@@ -475,7 +447,7 @@ pub extern "C" fn mch_new_cell(
     let next = a.heap;
     record::save(heap, next);
     let made = a.answer;
-    tell(answer, commands::made(made))
+    write_answer(answer, commands::made(made))
 }
 
 // An error of any 16-bit kind, with the word `w`.
@@ -499,7 +471,7 @@ pub extern "C" fn mch_new_error(
     let next = a.heap;
     record::save(heap, next);
     let made = a.answer;
-    tell(answer, commands::made(made))
+    write_answer(answer, commands::made(made))
 }
 
 // A box with the word `w`.
@@ -522,7 +494,7 @@ pub extern "C" fn mch_new_box(
     let next = a.heap;
     record::save(heap, next);
     let made = a.answer;
-    tell(answer, commands::made(made))
+    write_answer(answer, commands::made(made))
 }
 
 // An array of type `t` and so many nil items.
@@ -546,7 +518,7 @@ pub extern "C" fn mch_new_array(
     let next = a.heap;
     record::save(heap, next);
     let made = a.answer;
-    tell(answer, commands::made(made))
+    write_answer(answer, commands::made(made))
 }
 
 // A map without entries, of these types of keys and values.
@@ -570,7 +542,7 @@ pub extern "C" fn mch_new_map(
     let next = a.heap;
     record::save(heap, next);
     let made = a.answer;
-    tell(answer, commands::made(made))
+    write_answer(answer, commands::made(made))
 }
 
 // A struct of type `number` with these fields.
@@ -594,7 +566,7 @@ pub extern "C" fn mch_new_struct(
     let next = a.heap;
     record::save(heap, next);
     let made = a.answer;
-    tell(answer, commands::made(made))
+    write_answer(answer, commands::made(made))
 }
 
 // A function with these captures; an import where `import` is not 0.
@@ -629,7 +601,7 @@ pub extern "C" fn mch_new_function(
     let next = a.heap;
     record::save(heap, next);
     let made = a.answer;
-    tell(answer, commands::made(made))
+    write_answer(answer, commands::made(made))
 }
 
 // An iterator over the array or map `source`.
@@ -652,7 +624,7 @@ pub extern "C" fn mch_new_iter(
     let next = a.heap;
     record::save(heap, next);
     let made = a.answer;
-    tell(answer, commands::made(made))
+    write_answer(answer, commands::made(made))
 }
 
 // A coroutine: `k` holds state, sequence, payload, key, result, signal; four words to a frame:
@@ -689,7 +661,7 @@ pub extern "C" fn mch_new_coroutine(
     let next = a.heap;
     record::save(heap, next);
     let made = a.answer;
-    tell(answer, commands::made(made))
+    write_answer(answer, commands::made(made))
 }
 
 // ---- readings
@@ -711,7 +683,7 @@ pub extern "C" fn mch_get(
 {
     let h = record::load(heap);
     let a = heap::get(h, slots, scalars, list, directory, cells, w);
-    tell(answer, commands::number(a))
+    write_answer(answer, commands::number(a))
 }
 
 // A word seen through a box.
@@ -731,7 +703,7 @@ pub extern "C" fn mch_deref(
 {
     let h = record::load(heap);
     let a = heap::deref(h, slots, scalars, list, directory, cells, w);
-    tell(answer, commands::number(a))
+    write_answer(answer, commands::number(a))
 }
 
 // The number of a word's kind.
@@ -751,7 +723,7 @@ pub extern "C" fn mch_kind_of(
 {
     let h = record::load(heap);
     let a = heap::kind_of(h, slots, scalars, list, directory, cells, w);
-    tell(answer, commands::kind(a))
+    write_answer(answer, commands::kind(a))
 }
 
 // The length of a string in bytes.
@@ -771,7 +743,7 @@ pub extern "C" fn mch_string_length(
 {
     let h = record::load(heap);
     let a = access::string_length(h, slots, scalars, list, directory, cells, w);
-    tell(answer, commands::reading(a))
+    write_answer(answer, commands::reading(a))
 }
 
 // A string's bytes, in the buffer's first places; 8 where the buffer is shorter.
@@ -788,11 +760,11 @@ pub extern "C" fn mch_read_string(
     answer: &mut [u64; 6],
 ) -> u64
     requires { ⌜ Good (holds (now heap) (now slots) (now scalars) (now list) (now directory) (now cells)) ⌝ }
-    ensures { λ r. ⌜ ((l : Layout) → ShowsList l (Calls.read-string w (now (buffer .entry))) (holds (now (heap .entry)) (now (slots .entry)) (now (scalars .entry)) (now (list .entry)) (now (directory .entry)) (now (cells .entry))) (told r (now (answer .exit))) (now (buffer .exit)) (holds (now (heap .entry)) (now (slots .entry)) (now (scalars .entry)) (now (list .entry)) (now (directory .entry)) (now (cells .entry)))) ⌝ }
+    ensures { λ r. ⌜ ((l : Layout) → ShowsList l (Calls.read-string w (now (buffer .entry))) (holds (now (heap .entry)) (now (slots .entry)) (now (scalars .entry)) (now (list .entry)) (now (directory .entry)) (now (cells .entry))) (shownIn r (now (answer .exit))) (now (buffer .exit)) (holds (now (heap .entry)) (now (slots .entry)) (now (scalars .entry)) (now (list .entry)) (now (directory .entry)) (now (cells .entry)))) ⌝ }
 {
     let h = record::load(heap);
     let a = access::read_string(h, slots, scalars, list, directory, cells, w, buffer);
-    tell(answer, commands::reading(a))
+    write_answer(answer, commands::reading(a))
 }
 
 // An integer object's number.
@@ -812,7 +784,7 @@ pub extern "C" fn mch_read_integer(
 {
     let h = record::load(heap);
     let a = access::read_integer(h, slots, scalars, list, directory, cells, w);
-    tell(answer, commands::signed(a))
+    write_answer(answer, commands::signed(a))
 }
 
 // A cell's word.
@@ -832,7 +804,7 @@ pub extern "C" fn mch_read_cell(
 {
     let h = record::load(heap);
     let a = access::read_cell(h, slots, scalars, list, directory, cells, w);
-    tell(answer, commands::reading(a))
+    write_answer(answer, commands::reading(a))
 }
 
 // A cell's type.
@@ -852,7 +824,7 @@ pub extern "C" fn mch_cell_type(
 {
     let h = record::load(heap);
     let a = access::cell_type(h, slots, scalars, list, directory, cells, w);
-    tell(answer, commands::reading(a))
+    write_answer(answer, commands::reading(a))
 }
 
 // An error's kind.
@@ -872,7 +844,7 @@ pub extern "C" fn mch_error_kind(
 {
     let h = record::load(heap);
     let a = access::error_kind(h, slots, scalars, list, directory, cells, w);
-    tell(answer, commands::reading(a))
+    write_answer(answer, commands::reading(a))
 }
 
 // An error's word.
@@ -892,7 +864,7 @@ pub extern "C" fn mch_error_word(
 {
     let h = record::load(heap);
     let a = access::error_word(h, slots, scalars, list, directory, cells, w);
-    tell(answer, commands::reading(a))
+    write_answer(answer, commands::reading(a))
 }
 
 // A box's word.
@@ -912,7 +884,7 @@ pub extern "C" fn mch_read_box(
 {
     let h = record::load(heap);
     let a = access::read_box(h, slots, scalars, list, directory, cells, w);
-    tell(answer, commands::reading(a))
+    write_answer(answer, commands::reading(a))
 }
 
 // The type of an array's items.
@@ -932,7 +904,7 @@ pub extern "C" fn mch_array_type(
 {
     let h = record::load(heap);
     let a = access::array_type(h, slots, scalars, list, directory, cells, w);
-    tell(answer, commands::reading(a))
+    write_answer(answer, commands::reading(a))
 }
 
 // The length of an array.
@@ -952,7 +924,7 @@ pub extern "C" fn mch_array_length(
 {
     let h = record::load(heap);
     let a = access::array_length(h, slots, scalars, list, directory, cells, w);
-    tell(answer, commands::reading(a))
+    write_answer(answer, commands::reading(a))
 }
 
 // The capacity of an array.
@@ -972,7 +944,7 @@ pub extern "C" fn mch_array_capacity(
 {
     let h = record::load(heap);
     let a = access::array_capacity(h, slots, scalars, list, directory, cells, w);
-    tell(answer, commands::reading(a))
+    write_answer(answer, commands::reading(a))
 }
 
 // Item `i` of an array, as it was stored.
@@ -993,7 +965,7 @@ pub extern "C" fn mch_read_item(
 {
     let h = record::load(heap);
     let a = access::read_item(h, slots, scalars, list, directory, cells, w, i);
-    tell(answer, commands::reading(a))
+    write_answer(answer, commands::reading(a))
 }
 
 // A struct's type.
@@ -1013,7 +985,7 @@ pub extern "C" fn mch_struct_number(
 {
     let h = record::load(heap);
     let a = access::struct_number(h, slots, scalars, list, directory, cells, w);
-    tell(answer, commands::reading(a))
+    write_answer(answer, commands::reading(a))
 }
 
 // How many fields a struct has.
@@ -1033,7 +1005,7 @@ pub extern "C" fn mch_field_count(
 {
     let h = record::load(heap);
     let a = access::field_count(h, slots, scalars, list, directory, cells, w);
-    tell(answer, commands::reading(a))
+    write_answer(answer, commands::reading(a))
 }
 
 // Field `i` of a struct.
@@ -1054,7 +1026,7 @@ pub extern "C" fn mch_read_field(
 {
     let h = record::load(heap);
     let a = access::read_field(h, slots, scalars, list, directory, cells, w, i);
-    tell(answer, commands::reading(a))
+    write_answer(answer, commands::reading(a))
 }
 
 // Whether a function is an import.
@@ -1074,7 +1046,7 @@ pub extern "C" fn mch_is_import(
 {
     let h = record::load(heap);
     let a = access::is_import(h, slots, scalars, list, directory, cells, w);
-    tell(answer, commands::test(a))
+    write_answer(answer, commands::test(a))
 }
 
 // A function's number.
@@ -1094,7 +1066,7 @@ pub extern "C" fn mch_function_number(
 {
     let h = record::load(heap);
     let a = access::function_number(h, slots, scalars, list, directory, cells, w);
-    tell(answer, commands::reading(a))
+    write_answer(answer, commands::reading(a))
 }
 
 // How many captures a function has.
@@ -1114,7 +1086,7 @@ pub extern "C" fn mch_capture_count(
 {
     let h = record::load(heap);
     let a = access::capture_count(h, slots, scalars, list, directory, cells, w);
-    tell(answer, commands::reading(a))
+    write_answer(answer, commands::reading(a))
 }
 
 // Capture `i` of a function.
@@ -1135,7 +1107,7 @@ pub extern "C" fn mch_read_capture(
 {
     let h = record::load(heap);
     let a = access::read_capture(h, slots, scalars, list, directory, cells, w, i);
-    tell(answer, commands::reading(a))
+    write_answer(answer, commands::reading(a))
 }
 
 // A coroutine's state.
@@ -1155,7 +1127,7 @@ pub extern "C" fn mch_read_state(
 {
     let h = record::load(heap);
     let a = access::read_state(h, slots, scalars, list, directory, cells, w);
-    tell(answer, commands::reading(a))
+    write_answer(answer, commands::reading(a))
 }
 
 // A coroutine's payload.
@@ -1175,7 +1147,7 @@ pub extern "C" fn mch_read_payload(
 {
     let h = record::load(heap);
     let a = access::read_payload(h, slots, scalars, list, directory, cells, w);
-    tell(answer, commands::reading(a))
+    write_answer(answer, commands::reading(a))
 }
 
 // A coroutine's key.
@@ -1195,7 +1167,7 @@ pub extern "C" fn mch_read_key(
 {
     let h = record::load(heap);
     let a = access::read_key(h, slots, scalars, list, directory, cells, w);
-    tell(answer, commands::reading(a))
+    write_answer(answer, commands::reading(a))
 }
 
 // A coroutine's result.
@@ -1215,7 +1187,7 @@ pub extern "C" fn mch_read_result(
 {
     let h = record::load(heap);
     let a = access::read_result(h, slots, scalars, list, directory, cells, w);
-    tell(answer, commands::reading(a))
+    write_answer(answer, commands::reading(a))
 }
 
 // A coroutine's signal.
@@ -1235,7 +1207,7 @@ pub extern "C" fn mch_read_signal(
 {
     let h = record::load(heap);
     let a = access::read_signal(h, slots, scalars, list, directory, cells, w);
-    tell(answer, commands::reading(a))
+    write_answer(answer, commands::reading(a))
 }
 
 // A coroutine's sequence number.
@@ -1255,7 +1227,7 @@ pub extern "C" fn mch_coroutine_sequence(
 {
     let h = record::load(heap);
     let a = access::coroutine_sequence(h, slots, scalars, list, directory, cells, w);
-    tell(answer, commands::reading(a))
+    write_answer(answer, commands::reading(a))
 }
 
 // Whether a coroutine is finalized.
@@ -1275,7 +1247,7 @@ pub extern "C" fn mch_coroutine_finalized(
 {
     let h = record::load(heap);
     let a = access::coroutine_finalized(h, slots, scalars, list, directory, cells, w);
-    tell(answer, commands::test(a))
+    write_answer(answer, commands::test(a))
 }
 
 // How many registers a coroutine has.
@@ -1295,7 +1267,7 @@ pub extern "C" fn mch_register_count(
 {
     let h = record::load(heap);
     let a = access::register_count(h, slots, scalars, list, directory, cells, w);
-    tell(answer, commands::reading(a))
+    write_answer(answer, commands::reading(a))
 }
 
 // How many frames a coroutine has.
@@ -1315,7 +1287,7 @@ pub extern "C" fn mch_frame_count(
 {
     let h = record::load(heap);
     let a = access::frame_count(h, slots, scalars, list, directory, cells, w);
-    tell(answer, commands::reading(a))
+    write_answer(answer, commands::reading(a))
 }
 
 // Frame `i` of a coroutine.
@@ -1336,7 +1308,7 @@ pub extern "C" fn mch_read_frame(
 {
     let h = record::load(heap);
     let a = access::read_frame(h, slots, scalars, list, directory, cells, w, i);
-    tell(answer, commands::frame(a))
+    write_answer(answer, commands::frame(a))
 }
 
 // Register `i` of a coroutine.
@@ -1357,7 +1329,7 @@ pub extern "C" fn mch_read_register(
 {
     let h = record::load(heap);
     let a = access::read_register(h, slots, scalars, list, directory, cells, w, i);
-    tell(answer, commands::reading(a))
+    write_answer(answer, commands::reading(a))
 }
 
 // ---- stores, and arrays that grow and shrink
@@ -1380,7 +1352,7 @@ pub extern "C" fn mch_store_cell(
 {
     let h = record::load(heap);
     let a = access::store_cell(h, slots, scalars, list, directory, cells, w, v);
-    tell(answer, commands::done(a))
+    write_answer(answer, commands::done(a))
 }
 
 // A new word for a box.
@@ -1401,7 +1373,7 @@ pub extern "C" fn mch_store_box(
 {
     let h = record::load(heap);
     let a = access::store_box(h, slots, scalars, list, directory, cells, w, v);
-    tell(answer, commands::done(a))
+    write_answer(answer, commands::done(a))
 }
 
 // A new item at `i`; outside the length nothing changes.
@@ -1423,7 +1395,7 @@ pub extern "C" fn mch_store_item(
 {
     let h = record::load(heap);
     let a = access::store_item(h, slots, scalars, list, directory, cells, w, i, v);
-    tell(answer, commands::done(a))
+    write_answer(answer, commands::done(a))
 }
 
 // An item behind the last of an array.
@@ -1447,7 +1419,7 @@ pub extern "C" fn mch_push(
     let next = a.heap;
     record::save(heap, next);
     let done = a.done;
-    tell(answer, commands::done(done))
+    write_answer(answer, commands::done(done))
 }
 
 // The last item of an array, taken off.
@@ -1467,7 +1439,7 @@ pub extern "C" fn mch_pop(
 {
     let h = record::load(heap);
     let a = collections::pop(h, slots, scalars, list, directory, cells, w);
-    tell(answer, commands::reading(a))
+    write_answer(answer, commands::reading(a))
 }
 
 // A new word for field `i` of a struct.
@@ -1489,7 +1461,7 @@ pub extern "C" fn mch_store_field(
 {
     let h = record::load(heap);
     let a = access::store_field(h, slots, scalars, list, directory, cells, w, i, v);
-    tell(answer, commands::done(a))
+    write_answer(answer, commands::done(a))
 }
 
 // A new word for capture `i` of a function.
@@ -1511,7 +1483,7 @@ pub extern "C" fn mch_store_capture(
 {
     let h = record::load(heap);
     let a = access::store_capture(h, slots, scalars, list, directory, cells, w, i, v);
-    tell(answer, commands::done(a))
+    write_answer(answer, commands::done(a))
 }
 
 // A new word for register `i` of a coroutine.
@@ -1533,7 +1505,7 @@ pub extern "C" fn mch_store_register(
 {
     let h = record::load(heap);
     let a = access::store_register(h, slots, scalars, list, directory, cells, w, i, v);
-    tell(answer, commands::done(a))
+    write_answer(answer, commands::done(a))
 }
 
 // A new payload for a coroutine.
@@ -1554,7 +1526,7 @@ pub extern "C" fn mch_store_payload(
 {
     let h = record::load(heap);
     let a = access::store_payload(h, slots, scalars, list, directory, cells, w, v);
-    tell(answer, commands::done(a))
+    write_answer(answer, commands::done(a))
 }
 
 // A new key for a coroutine.
@@ -1575,7 +1547,7 @@ pub extern "C" fn mch_store_key(
 {
     let h = record::load(heap);
     let a = access::store_key(h, slots, scalars, list, directory, cells, w, v);
-    tell(answer, commands::done(a))
+    write_answer(answer, commands::done(a))
 }
 
 // A new result for a coroutine.
@@ -1596,7 +1568,7 @@ pub extern "C" fn mch_store_result(
 {
     let h = record::load(heap);
     let a = access::store_result(h, slots, scalars, list, directory, cells, w, v);
-    tell(answer, commands::done(a))
+    write_answer(answer, commands::done(a))
 }
 
 // A new signal for a coroutine.
@@ -1617,7 +1589,7 @@ pub extern "C" fn mch_store_signal(
 {
     let h = record::load(heap);
     let a = access::store_signal(h, slots, scalars, list, directory, cells, w, v);
-    tell(answer, commands::done(a))
+    write_answer(answer, commands::done(a))
 }
 
 // A new state for a coroutine.
@@ -1638,7 +1610,7 @@ pub extern "C" fn mch_set_state(
 {
     let h = record::load(heap);
     let a = access::set_state(h, slots, scalars, list, directory, cells, w, s);
-    tell(answer, commands::done(a))
+    write_answer(answer, commands::done(a))
 }
 
 // ---- maps and iterators
@@ -1677,7 +1649,7 @@ pub extern "C" fn mch_put(
     let next = a.heap;
     record::save(heap, next);
     let done = a.done;
-    tell(answer, commands::done(done))
+    write_answer(answer, commands::done(done))
 }
 
 // An entry added, whatever is there.
@@ -1714,7 +1686,7 @@ pub extern "C" fn mch_insert_entry(
     let next = a.heap;
     record::save(heap, next);
     let done = a.done;
-    tell(answer, commands::done(done))
+    write_answer(answer, commands::done(done))
 }
 
 // The position of a key.
@@ -1736,7 +1708,7 @@ pub extern "C" fn mch_find(
 {
     let h = record::load(heap);
     let a = collections::find(h, slots, scalars, list, directory, cells, w, hash, key);
-    tell(answer, commands::perhaps(a))
+    write_answer(answer, commands::perhaps(a))
 }
 
 // The entry of a key removed.
@@ -1761,7 +1733,7 @@ pub extern "C" fn mch_remove(
     let next = a.heap;
     record::save(heap, next);
     let done = a.done;
-    tell(answer, commands::done(done))
+    write_answer(answer, commands::done(done))
 }
 
 // The entry at a position removed.
@@ -1785,7 +1757,7 @@ pub extern "C" fn mch_remove_at(
     let next = a.heap;
     record::save(heap, next);
     let done = a.done;
-    tell(answer, commands::done(done))
+    write_answer(answer, commands::done(done))
 }
 
 // The entry at a position, live or dead.
@@ -1806,7 +1778,7 @@ pub extern "C" fn mch_read_entry(
 {
     let h = record::load(heap);
     let a = collections::read_entry(h, slots, scalars, list, directory, cells, w, pos);
-    tell(answer, commands::entry(a))
+    write_answer(answer, commands::entry(a))
 }
 
 // A new value at a position; outside nothing changes.
@@ -1828,7 +1800,7 @@ pub extern "C" fn mch_set_value(
 {
     let h = record::load(heap);
     let a = collections::set_value(h, slots, scalars, list, directory, cells, w, pos, v);
-    tell(answer, commands::done(a))
+    write_answer(answer, commands::done(a))
 }
 
 // The integer key `k` noted.
@@ -1849,7 +1821,7 @@ pub extern "C" fn mch_note(
 {
     let h = record::load(heap);
     let a = collections::note(h, slots, scalars, list, directory, cells, w, k);
-    tell(answer, commands::done(a))
+    write_answer(answer, commands::done(a))
 }
 
 // The integer key after the greatest noted one.
@@ -1869,7 +1841,7 @@ pub extern "C" fn mch_next_key(
 {
     let h = record::load(heap);
     let a = collections::next_key(h, slots, scalars, list, directory, cells, w);
-    tell(answer, commands::next_int(a))
+    write_answer(answer, commands::next_int(a))
 }
 
 // The greatest noted key.
@@ -1889,7 +1861,7 @@ pub extern "C" fn mch_noted_key(
 {
     let h = record::load(heap);
     let a = collections::noted_key(h, slots, scalars, list, directory, cells, w);
-    tell(answer, commands::noted(a))
+    write_answer(answer, commands::noted(a))
 }
 
 // The next live entry's position, or the end. The lent cursor is yielded yet, last sequence
@@ -1908,14 +1880,14 @@ pub extern "C" fn mch_next(
 ) -> u64
     requires { ⌜ Good (holds (now heap) (now slots) (now scalars) (now list) (now directory) (now cells)) ⌝ }
     ensures { λ r. ⌜ Reads (Calls.next w (cursorIn (now (cursor .entry)))) (holds (now (heap .entry)) (now (slots .entry)) (now (scalars .entry)) (now (list .entry)) (now (directory .entry)) (now (cells .entry))) r (now (answer .exit)) ⌝ }
-    ensures { λ r. ⌜ now (cursor .exit) ≡ cursorOut (told r (now (answer .exit))) (now (cursor .entry)) ⌝ }
+    ensures { λ r. ⌜ now (cursor .exit) ≡ cursorOut (shownIn r (now (answer .exit))) (now (cursor .entry)) ⌝ }
 {
     let h = record::load(heap);
     let c = load_cursor(cursor);
     let a = collections::step_cursor(h, slots, scalars, list, directory, cells, w, c);
     let s = commands::moved(c, a);
     save_cursor(cursor, s);
-    tell(answer, s)
+    write_answer(answer, s)
 }
 
 // How many live entries a map has.
@@ -1935,7 +1907,7 @@ pub extern "C" fn mch_live_count(
 {
     let h = record::load(heap);
     let a = collections::live_count(h, slots, scalars, list, directory, cells, w);
-    tell(answer, commands::reading(a))
+    write_answer(answer, commands::reading(a))
 }
 
 // How many places a map has, dead ones included.
@@ -1955,7 +1927,7 @@ pub extern "C" fn mch_place_count(
 {
     let h = record::load(heap);
     let a = collections::place_count(h, slots, scalars, list, directory, cells, w);
-    tell(answer, commands::reading(a))
+    write_answer(answer, commands::reading(a))
 }
 
 // Whether a map is hashed.
@@ -1975,7 +1947,7 @@ pub extern "C" fn mch_is_hashed(
 {
     let h = record::load(heap);
     let a = collections::is_hashed(h, slots, scalars, list, directory, cells, w);
-    tell(answer, commands::test(a))
+    write_answer(answer, commands::test(a))
 }
 
 // The type of a map's keys.
@@ -1995,7 +1967,7 @@ pub extern "C" fn mch_key_type(
 {
     let h = record::load(heap);
     let a = collections::key_type(h, slots, scalars, list, directory, cells, w);
-    tell(answer, commands::reading(a))
+    write_answer(answer, commands::reading(a))
 }
 
 // The type of a map's values.
@@ -2015,7 +1987,7 @@ pub extern "C" fn mch_value_type(
 {
     let h = record::load(heap);
     let a = collections::value_type(h, slots, scalars, list, directory, cells, w);
-    tell(answer, commands::reading(a))
+    write_answer(answer, commands::reading(a))
 }
 
 // How often a map was compacted, in 32 bits.
@@ -2035,7 +2007,7 @@ pub extern "C" fn mch_map_epoch(
 {
     let h = record::load(heap);
     let a = collections::map_epoch(h, slots, scalars, list, directory, cells, w);
-    tell(answer, commands::reading(a))
+    write_answer(answer, commands::reading(a))
 }
 
 // The next entry's sequence number.
@@ -2055,7 +2027,7 @@ pub extern "C" fn mch_next_sequence(
 {
     let h = record::load(heap);
     let a = collections::next_sequence(h, slots, scalars, list, directory, cells, w);
-    tell(answer, commands::reading(a))
+    write_answer(answer, commands::reading(a))
 }
 
 // The capacity of a map's entry list.
@@ -2075,7 +2047,7 @@ pub extern "C" fn mch_entry_capacity(
 {
     let h = record::load(heap);
     let a = collections::entry_capacity(h, slots, scalars, list, directory, cells, w);
-    tell(answer, commands::reading(a))
+    write_answer(answer, commands::reading(a))
 }
 
 // The length of a map's index.
@@ -2095,7 +2067,7 @@ pub extern "C" fn mch_index_length(
 {
     let h = record::load(heap);
     let a = collections::index_length(h, slots, scalars, list, directory, cells, w);
-    tell(answer, commands::reading(a))
+    write_answer(answer, commands::reading(a))
 }
 
 // The bytes that an insertion of this key would be charged.
@@ -2116,7 +2088,7 @@ pub extern "C" fn mch_growth_bytes(
 {
     let h = record::load(heap);
     let a = collections::growth_bytes(h, slots, scalars, list, directory, cells, w, key);
-    tell(answer, commands::reading(a))
+    write_answer(answer, commands::reading(a))
 }
 
 // The next item of an iterator, or its end.
@@ -2136,7 +2108,7 @@ pub extern "C" fn mch_iter_next(
 {
     let h = record::load(heap);
     let a = collections::iter_next(h, slots, scalars, list, directory, cells, w);
-    tell(answer, commands::perhaps(a))
+    write_answer(answer, commands::perhaps(a))
 }
 
 // The key of the item visited last.
@@ -2156,7 +2128,7 @@ pub extern "C" fn mch_iter_key(
 {
     let h = record::load(heap);
     let a = collections::iter_key(h, slots, scalars, list, directory, cells, w);
-    tell(answer, commands::perhaps(a))
+    write_answer(answer, commands::perhaps(a))
 }
 
 // The word of the array or map that an iterator goes over.
@@ -2176,7 +2148,7 @@ pub extern "C" fn mch_iter_source(
 {
     let h = record::load(heap);
     let a = collections::iter_source(h, slots, scalars, list, directory, cells, w);
-    tell(answer, commands::reading(a))
+    write_answer(answer, commands::reading(a))
 }
 
 // The type of an iterator's keys.
@@ -2196,7 +2168,7 @@ pub extern "C" fn mch_iter_key_type(
 {
     let h = record::load(heap);
     let a = collections::iter_key_type(h, slots, scalars, list, directory, cells, w);
-    tell(answer, commands::reading(a))
+    write_answer(answer, commands::reading(a))
 }
 
 // Whether an iterator has ended.
@@ -2216,7 +2188,7 @@ pub extern "C" fn mch_iter_ended(
 {
     let h = record::load(heap);
     let a = collections::iter_ended(h, slots, scalars, list, directory, cells, w);
-    tell(answer, commands::test(a))
+    write_answer(answer, commands::test(a))
 }
 
 // An iterator's cursor.
@@ -2236,5 +2208,5 @@ pub extern "C" fn mch_iter_cursor(
 {
     let h = record::load(heap);
     let a = collections::iter_cursor(h, slots, scalars, list, directory, cells, w);
-    tell(answer, commands::cursor(a))
+    write_answer(answer, commands::cursor(a))
 }

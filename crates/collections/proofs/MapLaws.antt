@@ -10,7 +10,7 @@ use borrow.Author.Tests.{ltb-false, ltb-true}
 use lib.IntN.{ℤ}
 use lib.ListN.{length}
 use Rattle.slots.specs.Header.{headerAt, scalarsAt}
-use Rattle.slots.specs.Signed.{signed64}
+use Rattle.words.specs.Word.{signedBits}
 use Rattle.slots.specs.declared.Header.{Header}
 use Rattle.slots.specs.declared.Scalars.{Scalars}
 use Rattle.cells.specs.Regions.{rawAt, regionOf}
@@ -278,15 +278,15 @@ sought e h = record { is = rw e at h }
 -- ---- the noted key of a map that is located
 
 module _ {t : State} {w i : ℕ} {x : Scalars} {r : Located} (g : Good t) (d : Locates (t .slots) (t .heap .fresh) w 7 r) (e : r ≡ L.At i) (p : x ≡ scalarsAt (t .scalars) i) where
-  noted-is : (l : Layout) → (mapStore (modelOf l t) w) .noted ≡ cond (eqb (x .d) 0) none (some (signed64 (x .e)))
-  noted-is l = ap (λ (s : Maps.Store). s .noted) (reads-mapStore l (located-at g d e)) ∙ rw p (noted-by (scalarsAt (t .scalars) i .d) (signed64 (scalarsAt (t .scalars) i .e)))
+  noted-is : (l : Layout) → (mapStore (modelOf l t) w) .noted ≡ cond (eqb (x .d) 0) none (some (signedBits (x .e)))
+  noted-is l = ap (λ (s : Maps.Store). s .noted) (reads-mapStore l (located-at g d e)) ∙ rw p (noted-by (scalarsAt (t .scalars) i .d) (signedBits (scalarsAt (t .scalars) i .e)))
 
   pub noted-nothing : x .d ≡ 0 → Reads (Calls.noted-key w) t (answered (noted none))
   unfolding terms effect uncharged
   noted-nothing z =
       row-answered g record { effect-is = λ l. refl; terms-are = λ l. refl } says-map (located-at g d e) (λ l. ap noted (noted-is l ∙ rw (eqb-yes (x .d) 0 z)))
 
-  pub noted-some : {k : ℤ} → (x .d ≡ 0 → ⊥) → k ≡ signed64 (x .e) → Reads (Calls.noted-key w) t (answered (noted (some k)))
+  pub noted-some : {k : ℤ} → (x .d ≡ 0 → ⊥) → k ≡ signedBits (x .e) → Reads (Calls.noted-key w) t (answered (noted (some k)))
   unfolding terms effect uncharged
   noted-some z k =
       row-answered g record { effect-is = λ l. refl; terms-are = λ l. refl } says-map (located-at g d e) (λ l. ap noted (noted-is l ∙ rw (eqb-no (x .d) 0 z, k)))

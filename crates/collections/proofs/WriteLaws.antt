@@ -7,10 +7,10 @@ use mir.Syntax.{w64}
 use mir.Val.{SFits}
 use borrow.Rule.Slice.PartMut.{midOf, putMid}
 use Rattle.slots.specs.Header.{headerAt, scalarsAt, setHeader, setScalars}
-use Rattle.slots.specs.Signed.{bits64}
+use Rattle.words.specs.Word.{bitsOfSigned}
 use Rattle.slots.specs.declared.Header.{Header}
 use Rattle.slots.specs.declared.Scalars.{Scalars}
-use Rattle.slots.proofs.SignedLaws.{signed-bits}
+use Rattle.words.proofs.Signed64.{signed-bits}
 use Rattle.cells.specs.Regions.{regionOf}
 use Rattle.map_store.specs.Map as Map
 use Rattle.map_store.specs.declared.MapStore.{MapStore}
@@ -22,7 +22,7 @@ abbrev scalarsWith : Scalars → ℕ → ℕ → ℕ → MapStore → Scalars
 scalarsWith x c d e s = record { a = x .a; b = x .b; c = c; d = d; e = e; f = s .fresh; g = s .epoch; h = s .live }
 
 pub map-written : {slots scalars slots′ scalars′ : List ℕ} {i c d e : ℕ} {h : Header} {x : Scalars} {s : MapStore} → i * 8 + 8 ≤ length slots → i * 8 + 8 ≤ length scalars →
-    h ≡ headerAt slots i → x ≡ scalarsAt scalars i → c ≡ flagOf (s .hashed) → d ≡ flagOf (s .known) → e ≡ bits64 (s .noted) → SFits w64 (s .noted) → s .epoch < 4294967296 →
+    h ≡ headerAt slots i → x ≡ scalarsAt scalars i → c ≡ flagOf (s .hashed) → d ≡ flagOf (s .known) → e ≡ bitsOfSigned (s .noted) → SFits w64 (s .noted) → s .epoch < 4294967296 →
     slots′ ≡ setHeader slots i (ownWords h (s .capacity) (s .index) (s .len)) → scalars′ ≡ setScalars scalars i (scalarsWith x c d e s) → MapWritten slots scalars slots′ scalars′ i s
 map-written {slots} {scalars} {i = i} {s = s} fits fits′ eh ex ec ed ee f g es exs = record {
   header = own-header fits (es ∙ ap (λ (z : Header). setHeader slots i (ownWords z (s .capacity) (s .index) (s .len))) eh);

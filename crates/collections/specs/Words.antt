@@ -7,7 +7,7 @@ use lib.ListN.{getD}
 use Rattle.account.specs.declared.Account.{Account}
 use Rattle.account.specs.Account.{charged, fits}
 use Rattle.slots.specs.Header.{scalarsAt}
-use Rattle.slots.specs.Signed.{bits64, signed64}
+use Rattle.words.specs.Word.{bitsOfSigned, signedBits}
 use Rattle.slots.specs.declared.Header.{Header}
 use Rattle.slots.specs.declared.Scalars.{Scalars}
 use Rattle.cells.specs.Regions.{rawOf}
@@ -42,13 +42,13 @@ flagOf true = 1
 flagOf false = 0
 
 abbrev pub mapScalars : Scalars → MapStore → Scalars
-mapScalars x s = record { a = x .a; b = x .b; c = flagOf (s .hashed); d = flagOf (s .known); e = bits64 (s .noted); f = s .fresh; g = s .epoch; h = s .live }
+mapScalars x s = record { a = x .a; b = x .b; c = flagOf (s .hashed); d = flagOf (s .known); e = bitsOfSigned (s .noted); f = s .fresh; g = s .epoch; h = s .live }
 
 -- the map's record was written to slot i, and is read back the same
 pub record MapWritten (slots scalars slots′ scalars′ : List ℕ) (i : ℕ) (s : MapStore) : Type 0 where
   pub header : OwnWords slots slots′ i (s .capacity) (s .index) (s .len)
   pub words : OwnScalars scalars scalars′ i (mapScalars (scalarsAt scalars i) s)
-  pub noted : signed64 (bits64 (s .noted)) ≡ s .noted
+  pub noted : signedBits (bitsOfSigned (s .noted)) ≡ s .noted
   pub epoch : s .epoch < 4294967296
 
 -- "push into, pop from and iteration over dynamic items dereference"

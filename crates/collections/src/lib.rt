@@ -128,7 +128,7 @@ fn map_of(h: Header, x: Scalars) -> MapStore
     ensures { λ r. ⌜ r ≡ mapFrom h x ⌝ }
 {
     MapStore {
-        noted: slots::signed_of(x.e),
+        noted: words::signed_of(x.e),
         len: h.len as usize,
         live: x.h as usize,
         fresh: x.f,
@@ -219,7 +219,7 @@ fn write_map(slots: &mut [u64], scalars: &mut [u64], i: usize, s: MapStore)
     let mut y = x;
     y.c = flag(s.hashed);
     y.d = flag(s.known);
-    y.e = slots::bits_of(s.noted);
+    y.e = words::bits_of(s.noted);
     y.f = s.fresh;
     y.g = s.epoch as u64;
     y.h = s.live as u64;
@@ -849,7 +849,7 @@ pub fn noted_key(
             if x.d == 0 {
                 return Noted::Nothing;
             }
-            Noted::Is(slots::signed_of(x.e))
+            Noted::Is(words::signed_of(x.e))
         }
     }
 }

@@ -1,28 +1,27 @@
 -- The parts of a collection put together.
-use Prim.Native.Nat.{ℕ, zero, suc, _+_, _-_, _*_, _/_, _%_, _≤_, _<_}
-use mathlib.Core.Path.{_≡_, refl, sym, ap, _∙_}
+use Prim.Native.Nat.{ℕ, _+_, _-_, _*_, _/_, _%_, _≤_, _<_}
+use mathlib.Core.Path.{_≡_, sym, ap, _∙_}
 use mathlib.Core.Logic.{_≢_}
 use mathlib.Core.List.{List}
 use native.Mathlib.Omega.{arith}
 use lib.ListN.{length, getD, take}
 use lib.Seq.{length-take-le}
-use Rattle.slots.specs.Header.{headerAt, scalarsAt}
+use Rattle.slots.specs.Header.{scalarsAt}
 use Rattle.slots.specs.declared.Scalars.{Scalars}
 use Rattle.layout.specs.Layout.{Layout}
-use Rattle.model.specs.Replies.{written}
 use Rattle.model.specs.declared.Weights.{Weights}
 use Rattle.marking.specs.Children.{wordAt}
-use Rattle.marking.specs.Marks.{Tracked, Unmarked}
+use Rattle.marking.specs.Marks.{Unmarked}
 use Rattle.finalizing.specs.declared.Kept.{Kept}
 use Rattle.finalizing.specs.declared.Kept.the-variants as K
-use Rattle.finalizing.specs.Dropped.{droppedWords, marksKept, finalizedIn, Blanks, Fills, TooFew, AllKept, Keeps}
+use Rattle.finalizing.specs.Dropped.{droppedWords, finalizedIn, Blanks, TooFew, AllKept, Keeps}
 use Rattle.finalizing.proofs.OrderLaws.{occ-at}
 use Rattle.finalizing.proofs.Listing.{filled-part, filled-length}
-use Rattle.finalizing.proofs.Keeping.{at-rest, scanned-tracked}
-use Rattle.finalizing.proofs.Finalized.{finalized-at, finalized-length, flagged, names, dropped-member}
+use Rattle.finalizing.proofs.Keeping.{at-rest}
+use Rattle.finalizing.proofs.Finalized.{finalized-at, finalized-length, names, dropped-member}
 use Rattle.collector.specs.declared.Tally.{Tally}
-use Rattle.collector.specs.Sweep.{Weighable, Sweepable, Swept}
-use Rattle.collector.specs.Ending.{Buffers, buffers, Refuses, Collects}
+use Rattle.collector.specs.Sweep.{Sweepable, Swept}
+use Rattle.collector.specs.Ending.{buffers, Refuses, Collects}
 use Rattle.collector.proofs.Contents.{flag-frames}
 
 module _ (s : List ℕ) (n : ℕ) (f kept m o p m′ o′ p′ : List ℕ) {r : Kept} (k : Keeps r s n f kept m o p m′ o′ p′) where

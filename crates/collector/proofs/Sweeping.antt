@@ -2,16 +2,15 @@
 use Prim.Native.Nat.{ℕ, zero, suc, _+_, _-_, _*_, _%_, _≤_, _<_}
 use mathlib.Core.Path.{_≡_, refl, sym, ap, _∙_}
 use mathlib.Core.Logic.{_≢_}
-use mathlib.Core.Bool.{Bool, true, false, cond, _&&_, not}
+use mathlib.Core.Bool.{Bool, true, false, _&&_, not}
 use mathlib.Core.List.{List, _∷_}
 use native.Mathlib.Omega.{arith}
 use native.Mathlib.Numerals.{add-one}
 use native.Mathlib.Decide.{ℕ-discrete}
 use lib.Dec.{eqb}
-use lib.ListN.{length, getD, set, length-set}
+use lib.ListN.{length, getD, length-set}
 use borrow.Author.Tests.{eq-eqb, ne-eqb}
-use Rattle.slots.specs.Header.{headerAt, scalarsAt, setHeader}
-use Rattle.slots.specs.FreeList.{Listed, freeList}
+use Rattle.slots.specs.Header.{headerAt, scalarsAt}
 use Rattle.slots.specs.declared.Header.{Header}
 use Rattle.slots.proofs.HeaderLaws.{headerAt-same, headerAt-other, length-setHeader}
 use Rattle.slots.proofs.FreeListLaws.{listed-kept, listed-push, free-push}
@@ -22,7 +21,7 @@ use Rattle.model.specs.declared.Weights.{Weights}
 use Rattle.heap.specs.Good.{coroutineOf}
 use Rattle.heap.proofs.PlaceLaws.{coroutine-max}
 use Rattle.collector.specs.declared.Tally.{Tally}
-use Rattle.collector.specs.Sweep.{bytesAt, weightAt, Weighable, freedHeader, nextGeneration, freedAt, returnedAt, sweptHeader, filledIn, keptTally, retiredTally, returnedTally, Looked, vacant, stays, retires, returns, Lookable, Swept, Sweepable}
+use Rattle.collector.specs.Sweep.{weightAt, freedHeader, freedAt, returnedAt, sweptHeader, filledIn, Looked, vacant, stays, retires, returns, Lookable, Swept, Sweepable}
 use Rattle.collector.proofs.Weighing.{weight-le}
 
 -- ---- what becomes of one slot

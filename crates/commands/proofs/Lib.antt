@@ -1,3 +1,2 @@
 pub mod PerformedLaws
-pub mod SizeLaws
 pub mod ListLaws

@@ -16,6 +16,7 @@ use Rattle.heap.specs.declared.Reading.{Reading}
 use Rattle.heap.specs.declared.Reading.the-variants as Read
 use Rattle.heap.specs.Answers.{readingIs}
 use Rattle.heap.specs.State.{State, modelOf}
+use Rattle.heap.specs.Good.{Ready}
 use Rattle.heap.specs.Promise.{Does}
 use Rattle.access.specs.Answers.{lentReading}
 use Rattle.collector.specs.declared.Collection.{Collection}
@@ -27,9 +28,9 @@ use Rattle.commands.specs.declared.Performed.the-variants.{Known, Unknow
 use Rattle.commands.specs.Commands.{orElse}
 use Rattle.commands.specs.Shows.{answerShown, replyShown, shownOf, withLent}
 use Rattle.commands.specs.Promise.{ChangedBy, ShowsCall, known-change, unknown-change}
-use Rattle.commands.specs.Lists.{CommandedBy, Ready, bytesAfter, known-command, leftIn, placesAfter, unknown-command}
+use Rattle.commands.specs.Lists.{CommandedBy, bytesAfter, known-command, leftIn, placesAfter, unknown-command}
 use Rattle.commands.proofs.PerformedLaws.{shown-refusal, unknown-call}
-use Rattle.commands.proofs.SizeLaws.{step-size}
+use Rattle.history.proofs.Sizes.{step-size}
 
 -- ---- one call
 
@@ -54,19 +55,19 @@ shown-read (Read.Refused q) bytes = refl
 
 -- ---- the lists
 
-bytes-kept : (c : ℕ) (m : Lent) (bytes : List ℕ) → c ≢ 0x26 → bytes ≡ bytesAfter c m bytes
+pub bytes-kept : (c : ℕ) (m : Lent) (bytes : List ℕ) → c ≢ 0x26 → bytes ≡ bytesAfter c m bytes
 unfolding bytesAfter
 bytes-kept c m bytes n = rw (eqb-no c 0x26 n)
 
-places-kept : (c : ℕ) (m : Lent) (places : List ℕ) → c ≢ 0x0F → places ≡ placesAfter c m places
+pub places-kept : (c : ℕ) (m : Lent) (places : List ℕ) → c ≢ 0x0F → places ≡ placesAfter c m places
 unfolding placesAfter
 places-kept c m places n = rw (eqb-no c 0x0F n)
 
-bytes-left : (c : ℕ) {m : Lent} (bytes bytes′ : List ℕ) → c ≡ 0x26 → m ≡ list bytes′ → bytes′ ≡ bytesAfter c m bytes
+pub bytes-left : (c : ℕ) {m : Lent} (bytes bytes′ : List ℕ) → c ≡ 0x26 → m ≡ list bytes′ → bytes′ ≡ bytesAfter c m bytes
 unfolding bytesAfter leftIn
 bytes-left c bytes bytes′ e f = rw (e, f)
 
-places-left : (c : ℕ) {m : Lent} (places places′ : List ℕ) → c ≡ 0x0F → m ≡ list places′ → places′ ≡ placesAfter c m places
+pub places-left : (c : ℕ) {m : Lent} (places places′ : List ℕ) → c ≡ 0x0F → m ≡ list places′ → places′ ≡ placesAfter c m places
 unfolding placesAfter leftIn
 places-left c places places′ e f = rw (e, f)
 

@@ -6,22 +6,14 @@ use mathlib.Core.List.{List}
 use mathlib.Core.Option.{Option, none, some}
 use lib.Dec.{eqb}
 use Rattle.layout.specs.Layout.{Layout}
-use Rattle.layout.specs.Sections.{Tabled}
 use Rattle.model.specs.Calls.{Call}
 use Rattle.model.specs.Replies.{Lent, no-memory, list, cursor-at}
 use Rattle.model.specs.Step.{step}
 use Rattle.heap.specs.State.{State, modelOf}
-use Rattle.heap.specs.Good.{Good, Rested}
 use Rattle.commands.specs.declared.Shown.{Shown}
 use Rattle.commands.specs.declared.Performed.{Performed}
 use Rattle.commands.specs.declared.Performed.the-variants.{Known, Unknown}
 use Rattle.commands.specs.Promise.{ShowsCall}
-
--- what the calls ask of the heap and of the memory lent with it, between commands
-pub record Ready (t : State) (marks order layout table : List ℕ) : Type 0 where
-  pub good : Good t
-  pub rested : Rested (t .heap .size) marks order
-  pub tabled : Tabled layout table
 
 -- a lent list, as the call left it
 unfoldable pub leftIn : Lent → List ℕ → List ℕ

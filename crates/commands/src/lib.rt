@@ -91,24 +91,6 @@ fn float_bits(f: f64) -> u64
     f64::to_bits(f)
 }
 
-// Document 01's number, "Who can be turned back".
-pub fn number_of(q: Refusal) -> u64
-    ensures { λ r. ⌜ r ≡ Heaps.numberOf q ⌝ }
-{
-    match q {
-        Refusal::ReachesNothing => 1,
-        Refusal::OtherKind => 2,
-        Refusal::Outside => 3,
-        Refusal::BadType => 4,
-        Refusal::OverBudget => 5,
-        Refusal::NoSlot => 6,
-        Refusal::NoCells => 7,
-        Refusal::TooShort => 8,
-        Refusal::Spent => 9,
-        Refusal::BadOpening => 10,
-    }
-}
-
 fn kind_number(k: Kind) -> u64
     ensures { λ r. ⌜ r ≡ Heaps.kindNumber k ⌝ }
 {
@@ -154,7 +136,7 @@ fn seq_or_zero(l: Last) -> u64
 pub fn refused(q: Refusal) -> Shown
     ensures { λ r. ⌜ r ≡ shownOf (Heaps.refused q) ⌝ }
 {
-    shows(number_of(q), 0, 0, 0, 0, 0)
+    shows(heap::number_of(q), 0, 0, 0, 0, 0)
 }
 
 pub fn number(w: u64) -> Shown
@@ -318,7 +300,7 @@ pub fn moved(c: Cursor, a: Moved) -> Shown
                 Found::Nothing => with_cursor(0, 0, 0, after),
             }
         }
-        Moved::Refused(q) => with_cursor(number_of(q), 0, 0, c),
+        Moved::Refused(q) => with_cursor(heap::number_of(q), 0, 0, c),
     }
 }
 

@@ -6,12 +6,13 @@ use mathlib.Core.Option.{Option, none}
 use Rattle.layout.specs.Layout.{Layout}
 use Rattle.model.specs.Calls.{Call}
 use Rattle.heap.specs.State.{State}
+use Rattle.heap.specs.Good.{Ready}
 use Rattle.commands.specs.declared.Operands.{Operands}
 use Rattle.commands.specs.declared.Performed.{Performed}
 use Rattle.commands.specs.declared.Performed.the-variants.{Known}
 use Rattle.commands.specs.declared.Shown.{Shown}
 use Rattle.commands.specs.Promise.{ReadBy}
-use Rattle.commands.specs.Lists.{CommandedBy, Ready}
+use Rattle.commands.specs.Lists.{CommandedBy}
 use Rattle.commands.proofs.ListLaws.{group-first}
 use Rattle.commands.specs.Commands.{changeCall, coroutineRead, growCall, heapRead, iteratorRead, listRead, mapChange, mapNumber, mapRead, newCall, orElse, plainRead, readCall, storeCall, wordCall}
 

@@ -2,8 +2,9 @@
 ghost use mathlib.Core.Path.{_≡_};
 ghost use Rattle.layout.specs.Sections.{layoutOf};
 ghost use Rattle.heap.specs.State.{state};
+ghost use Rattle.heap.specs.Good.{Ready};
 ghost use Rattle.commands.specs.Commands.{commandCall};
-ghost use Rattle.commands.specs.Lists.{CommandedBy, Ready};
+ghost use Rattle.commands.specs.Lists.{CommandedBy};
 use changes::Turn;
 use commands::Operands;
 use commands::Performed;

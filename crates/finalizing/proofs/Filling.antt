@@ -6,8 +6,8 @@ use Prim.Native.Nat.{ℕ, zero, suc, _+_, _-_, _*_, _%_, _≤_, _<_}
 use native.Mathlib.Omega.{arith}
 use native.Mathlib.Numerals.{add-one}
 use lib.Dec.{eqb}
-use lib.ListN.{length, getD, set, take, drop, replicate, length-set, length-append, take-append-drop, replicate-append-replicate}
-use lib.Seq.{drop-set-lt, take-suc-set, length-take-le, drop-cons}
+use lib.ListN.{length, getD, set, take, drop, length-set, take-append-drop}
+use lib.Seq.{drop-set-lt, take-suc-set, drop-cons}
 use borrow.Author.Tests.{eq-eqb, ne-eqb}
 use Rattle.slots.specs.Header.{headerAt, scalarsAt}
 use Rattle.slots.specs.declared.Header.{Header}
@@ -153,31 +153,6 @@ module _ (s x m : List ℕ) where
   none-dropped n e z =
       let nil : droppedSlots s x m n ≡ [] = sieve-none (isDropped s x m) (wordAt s) n 0 (λ j l. stays-out j (part-none (λ i. coroutineOf (headerAt s i .kind)) n j (sym e ∙ z) (omega arith))) in
       rw nil
-
--- ---- places cleared
-
-pub record Clearing (o₀ o : List ℕ) (n i : ℕ) : Type 0 where
-  pub at : i ≤ n
-  pub len : length o ≡ length o₀
-  pub done : take i o ≡ replicate i 0
-  pub rest : drop i o ≡ drop i o₀
-
-zeros-more : (i z : ℕ) → replicate i z ++ (z ∷ []) ≡ replicate (suc i) z
-zeros-more i z = replicate-append-replicate i 1 z ∙ ap (λ (n : ℕ). replicate n z) (add-one i)
-
-pub clearing-start : (o₀ : List ℕ) (n : ℕ) → Clearing o₀ o₀ n 0
-clearing-start o₀ n = record { at = omega arith; len = refl; done = refl; rest = refl }
-
-pub clearing-step : {o₀ o : List ℕ} {n i : ℕ} → n ≤ length o₀ → Clearing o₀ o n i → i < n → Clearing o₀ (set o i 0) n (i + 1)
-clearing-step {o₀} {o} {n} {i} f v l = rw (add-one i) (record {
-  at = l;
-  len = length-set o i 0 ∙ v .len;
-  done = take-suc-set o i 0 (omega (arith, v .len)) ∙ rw (v .done) (zeros-more i 0);
-  rest = drop-set-lt (suc i) o i 0 (omega arith) ∙ drop-onward o o₀ i (suc i) (omega arith) (v .rest);
-})
-
-pub clearing-end : {o₀ o : List ℕ} {n i : ℕ} → Clearing o₀ o n i → n ≤ i → o ≡ replicate n 0 ++ drop n o₀
-clearing-end {o₀} {o} {n} {i} v l = let e : i ≡ n = omega (arith, v .at) in sym (take-append-drop i o) ∙ rw (v .done, v .rest, e)
 
 -- ---- finalized
 

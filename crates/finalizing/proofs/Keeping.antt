@@ -1,21 +1,19 @@
 -- What is kept, marked in two phases; and the marks undone where the list is too short.
 use mathlib.Core.Path.{_≡_, refl, sym, ap, _∙_}
-use mathlib.Core.List.{List, [], _∷_, _++_, List·Memᴰ·not-nil}
+use mathlib.Core.List.{List, _∷_, _++_, List·Memᴰ·not-nil}
 use Prim.Native.Nat.{ℕ, zero, suc, _+_, _-_, _*_, _≤_, _<_}
 use native.Mathlib.Omega.{arith}
-use lib.ListN.{length, getD, take, drop, replicate, length-replicate, getD-replicate, length-drop, take-append-drop, List·getD-eq-default}
+use lib.ListN.{length, getD, take, drop, replicate, length-replicate, getD-replicate, length-drop, take-append-drop}
 use lib.Seq.{ext-getD, getD-take, getD-drop, length-take-le}
-use Rattle.slots.specs.Header.{headerAt}
 use Rattle.cells.specs.Regions.{rawAt}
 use Rattle.layout.specs.Layout.{Layout}
-use Rattle.marking.specs.Reach.{Marked, ones, phase}
+use Rattle.marking.specs.Reach.{ones, phase}
 use Rattle.marking.specs.Children.{hit, children, wordAt}
-use Rattle.marking.specs.Marks.{Ready, Listing, Sound, Scanned, Phased, Tracked, Unmarked}
+use Rattle.marking.specs.Marks.{Ready, Listing, Sound, Scanned, Phased, Unmarked}
 use Rattle.marking.proofs.ReachLaws.{ones-le}
 use Rattle.marking.proofs.Doing.{drop-onward}
-use Rattle.marking.proofs.Undoing.{listing-tracked}
 use Rattle.finalizing.specs.Order.{seqOf, sortWords}
-use Rattle.finalizing.specs.Dropped.{isDropped, sieve, droppedSlots, marksReached, droppedWords, marksKept, Listable, Fills, Blank, Blanks, TooFew, AllKept}
+use Rattle.finalizing.specs.Dropped.{isDropped, droppedSlots, marksReached, droppedWords, marksKept, Listable, Fills, Blank, Blanks, TooFew, AllKept}
 use Rattle.finalizing.proofs.OrderLaws.{sort-length}
 use Rattle.finalizing.proofs.Filling.{sieve-length}
 use Rattle.finalizing.proofs.Listing.{filled-part}
@@ -43,8 +41,8 @@ at-rest {n = n} {k = k} {m = m} {o = o} {m₁ = m₁} b p u =
     let few : k ≤ n = omega (arith, ones-le m₁, p .count, p .marks-length) in
     (u .marks ∙ ap (λ (j : ℕ). replicate j 0) (p .marks-length) ∙ sym (b .marks), u .order ∙ rw (p .rest, ← blank-front b few) (take-append-drop k o))
 
-pub scanned-tracked : {s : List ℕ} {n k : ℕ} {m o m₁ o₁ : List ℕ} → Blanks n m o → Scanned s n o 0 m₁ o₁ k → Tracked m₁ o₁ k
-scanned-tracked {m₁ = m₁} b p = listing-tracked (p .marks-length) (omega (arith, ones-le m₁, p .count, p .marks-length, b .room, p .order-length)) (p .listing)
+pub scanned-room : {s : List ℕ} {n k : ℕ} {m o m₁ o₁ : List ℕ} → Blanks n m o → Scanned s n o 0 m₁ o₁ k → k ≤ length o₁
+scanned-room {m₁ = m₁} b p = omega (arith, ones-le m₁, p .count, p .marks-length, b .room, p .order-length)
 
 module _ {s x c : List ℕ} {n : ℕ} {m o : List ℕ} (g : Sound s x c n) (b : Blanks n m o) where
   blank-length : length m ≡ n
@@ -66,9 +64,6 @@ module _ {s x c : List ℕ} {n : ℕ} {m o : List ℕ} (g : Sound s x c n) (b : 
     pub first-listable : Listable s x m₁ n
     unfolding rawAt
     first-listable = record { few = g .slots-max; slots-fit = g .slots-fit; scalars-fit = g .scalars-fit; len = p .scanned .marks-length; halves = λ i l. g .each i l .half-high }
-
-    pub first-tracked : Tracked m₁ o₁ k
-    first-tracked = scanned-tracked b (p .scanned)
 
     module _ {f : ℕ} (e : f ≡ length (droppedSlots s x m₁ n)) where
       found-few : f ≤ n

@@ -11,7 +11,7 @@ use lib.ListN.{length, take, drop}
 use lib.Seq.{length-take-le}
 use Rattle.history.proofs.Facts.{eqb-yes, eqb-no}
 use Rattle.slots.proofs.Cases.{by-cases, same-or-not}
-use Rattle.slots.specs.Signed.{signed64}
+use Rattle.words.specs.Word.{signedBits}
 use Rattle.slots.specs.declared.Scalars.{Scalars}
 use Rattle.cells.specs.Moves.{stringBytes, bytesFrom}
 use Rattle.cells.specs.Regions.{Raw}
@@ -62,7 +62,7 @@ module _ (r : Raw) (x : Scalars) where
   unfolding contentOf
   content-string e = ap (λ (k : ℕ). contentOf (ofKind r k) x) e
 
-  pub content-integer : r .kind ≡ 2 → contentOf r x ≡ integer (signed64 (r .value))
+  pub content-integer : r .kind ≡ 2 → contentOf r x ≡ integer (signedBits (r .value))
   unfolding contentOf
   content-integer e = ap (λ (k : ℕ). contentOf (ofKind r k) x) e
 

@@ -6,7 +6,7 @@ use mathlib.Core.List.{List, [], _∷_}
 use mathlib.Core.Option.{none}
 use lib.IntN.{ℤ}
 use lib.ListN.{take, drop}
-use Rattle.slots.specs.Signed.{signed64}
+use Rattle.words.specs.Word.{signedBits}
 use Rattle.cells.specs.Moves.{stringBytes}
 use Rattle.map_store.specs.Store.{emptyStore}
 use Rattle.map_store.specs.View.{storeOf}
@@ -69,7 +69,7 @@ reads-content l d f h = rw (reached-look h l)
 pub reads-string : (l : Layout) {t : State} {w i : ℕ} {A : Type 0} (d : A) (f : List ℕ → A) → Target t w i 1 → readOr d (case-string d f) (look (viewOf (modelOf l t)) w) ≡ f (stringBytes (rawOf t i .cells) (rawOf t i .len))
 reads-string l {t} {i = i} d f o = reads-content l d (case-string d f) (o .reached) ∙ ap (case-string d f) (content-string (rawOf t i) (moreOf t i) (o .kind-is))
 
-pub reads-integer : (l : Layout) {t : State} {w i : ℕ} {A : Type 0} (d : A) (f : ℤ → A) → Target t w i 2 → readOr d (case-integer d f) (look (viewOf (modelOf l t)) w) ≡ f (signed64 (rawOf t i .value))
+pub reads-integer : (l : Layout) {t : State} {w i : ℕ} {A : Type 0} (d : A) (f : ℤ → A) → Target t w i 2 → readOr d (case-integer d f) (look (viewOf (modelOf l t)) w) ≡ f (signedBits (rawOf t i .value))
 reads-integer l {t} {i = i} d f o = reads-content l d (case-integer d f) (o .reached) ∙ ap (case-integer d f) (content-integer (rawOf t i) (moreOf t i) (o .kind-is))
 
 pub reads-cell : (l : Layout) {t : State} {w i : ℕ} {A : Type 0} (d : A) (f : Cell → A) → Target t w i 3 → readOr d (case-cell d f) (look (viewOf (modelOf l t)) w) ≡ f record { type = rawOf t i .mode; word = rawOf t i .value }

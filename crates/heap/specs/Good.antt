@@ -10,6 +10,7 @@ use Rattle.slots.specs.FreeList.{Listed}
 use Rattle.slots.specs.declared.Scalars.{Scalars}
 use Rattle.cells.specs.Moves.{stringCells}
 use Rattle.cells.specs.Regions.{Raw, Laid, sizesOf, sumTo}
+use Rattle.layout.specs.Sections.{Tabled}
 use Rattle.map_store.specs.Map as Map
 use Rattle.model.specs.declared.Weights.{Weights}
 use Rattle.heap.specs.Kinds.{mapOf}
@@ -79,3 +80,9 @@ pub record Rested (size : ℕ) (marks order : List ℕ) : Type 0 where
   pub order-fit : size * 2 ≤ length order
   pub marks-zero : (i : ℕ) → i < size → getD marks i 0 ≡ 0
   pub order-zero : (i : ℕ) → i < size * 2 → getD order i 0 ≡ 0
+
+-- what the calls ask of the heap and of the memory lent with it, between them
+pub record Ready (t : State) (marks order layout table : List ℕ) : Type 0 where
+  pub good : Good t
+  pub rested : Rested (t .heap .size) marks order
+  pub tabled : Tabled layout table

@@ -5,7 +5,7 @@ use mathlib.Core.List.{List, [], _∷_}
 use mathlib.Core.Option.{Option, none, some}
 use lib.Dec.{eqb}
 use lib.ListN.{getD, take, drop}
-use Rattle.slots.specs.Signed.{signed64}
+use Rattle.words.specs.Word.{signedBits}
 use Rattle.slots.specs.declared.Scalars.{Scalars}
 use Rattle.cells.specs.Moves.{stringBytes}
 use Rattle.cells.specs.Regions.{Raw}
@@ -31,7 +31,7 @@ byRow k a1 a2 a3 a4 a5 a6 a7 a8 a9 a10 a11 =
 
 -- the map's record: capacity in value, index length in mode, places in len
 abbrev pub mapOf : Raw → Scalars → MapStore
-mapOf r x = record { noted = signed64 (x .e); len = r .len; live = x .h; fresh = x .f; capacity = r .value; index = r .mode; epoch = x .g; hashed = yes (x .c); known = yes (x .d) }
+mapOf r x = record { noted = signedBits (x .e); len = r .len; live = x .h; fresh = x .f; capacity = r .value; index = r .mode; epoch = x .g; hashed = yes (x .c); known = yes (x .d) }
 
 abbrev pub cursorOf : Scalars → Cursor
 cursorOf x = record { last = perhaps (x .d) (x .e); pos = x .f; epoch = x .g }
@@ -48,7 +48,7 @@ framesIn ws k (suc n) = frameAt ws k ∷ framesIn ws (suc k) n
 unfoldable pub contentOf : Raw → Scalars → Content
 contentOf r x = byRow (r .kind)
     (string (stringBytes (r .cells) (r .len)))
-    (integer (signed64 (r .value)))
+    (integer (signedBits (r .value)))
     (cell record { type = r .mode; word = r .value })
     (error record { kind = r .mode; word = r .value })
     (box (r .value))

@@ -5,7 +5,7 @@ ghost use Prim.Native.Nat.{_+_, _*_, _≤_, _<_};
 ghost use lib.ListN.{length};
 ghost use Rattle.model.specs.Calls as Calls;
 ghost use Rattle.model.specs.Replies.{nothing, number, truth};
-ghost use Rattle.heap.specs.Answers.{answered, doneIs, kindNumber};
+ghost use Rattle.heap.specs.Answers.{answered, doneIs, kindNumber, numberOf};
 ghost use Rattle.heap.specs.State.{state};
 ghost use Rattle.heap.specs.Good.{Good, coroutineOf};
 ghost use Rattle.slots.specs.FreeList.{takenSlot};
@@ -60,6 +60,24 @@ pub enum Refusal {
     TooShort,
     Spent,
     BadOpening,
+}
+
+// Document 01's number, "Who can be turned back".
+pub fn number_of(q: Refusal) -> u64
+    ensures { λ r. ⌜ r ≡ numberOf q ⌝ }
+{
+    match q {
+        Refusal::ReachesNothing => 1,
+        Refusal::OtherKind => 2,
+        Refusal::Outside => 3,
+        Refusal::BadType => 4,
+        Refusal::OverBudget => 5,
+        Refusal::NoSlot => 6,
+        Refusal::NoCells => 7,
+        Refusal::TooShort => 8,
+        Refusal::Spent => 9,
+        Refusal::BadOpening => 10,
+    }
 }
 
 // A word or a number read.
@@ -616,7 +634,8 @@ fn has_room(
     n * 2 <= order
 }
 
-fn clear_marks(marks: &mut [u8], n: usize)
+// The first n marks, and the first n places of the order, become 0.
+pub fn clear_marks(marks: &mut [u8], n: usize)
     requires { ⌜ n ≤ length (now marks) ⌝ }
     ensures { λ r. ⌜ now (marks .exit) ≡ cleared (now (marks .entry)) n ⌝ }
 {
@@ -627,7 +646,7 @@ fn clear_marks(marks: &mut [u8], n: usize)
     }
 }
 
-fn clear_order(order: &mut [u32], n: usize)
+pub fn clear_order(order: &mut [u32], n: usize)
     requires { ⌜ n ≤ length (now order) ⌝ }
     ensures { λ r. ⌜ now (order .exit) ≡ cleared (now (order .entry)) n ⌝ }
 {

@@ -6,7 +6,6 @@ use native.Mathlib.Numerals.{add-one}
 use native.Mathlib.Omega.{arith}
 use lib.ListN.{length, set, take, length-set}
 use lib.Seq.{append-snoc, take-all, take-suc-set}
-use mathlib.Core.Bool.{Bool, true, false}
 use Rattle.layout.specs.Layout.{Layout}
 use Rattle.model.specs.Calls.{Call, collect}
 use Rattle.model.specs.Demand3.{run}
@@ -14,7 +13,7 @@ use Rattle.model.specs.Model.{Model}
 use Rattle.model.specs.Step.{step}
 use Rattle.history.proofs.Lift.{Seen, seen, seenAll}
 use Rattle.commands.specs.Shows.{answerShown, orZero, replyShown, shownOf, withLent}
-use Rattle.heap.specs.Answers.{madeIs, readingIs, numberOf}
+use Rattle.heap.specs.Answers.{madeIs, readingIs}
 use Rattle.heap.specs.State.{State, modelOf, withHeap}
 use Rattle.heap.specs.Good.{Good, Rested}
 use Rattle.layout.specs.Sections.{Tabled}
@@ -25,17 +24,11 @@ use Rattle.heap.specs.declared.Reading.the-variants as Read
 use Rattle.collections.specs.Answers.{perhapsIs}
 use Rattle.collections.specs.declared.Perhaps.{Perhaps}
 use Rattle.collections.specs.declared.Perhaps.the-variants as P
-use Rattle.heap.specs.Opens.{Beside, Opens, openedBy, openedNumber}
-use Rattle.heap.specs.declared.Opened.{Opened}
-use Rattle.heap.specs.declared.Opened.the-variants.{Ready, Refused}
-use Rattle.heap.specs.declared.Refusal.{Refusal}
-use Rattle.heap.specs.declared.Refusal.the-variants.{BadOpening}
+use Rattle.heap.specs.declared.Opened.the-variants.{Refused}
 use Rattle.collector.specs.Answer.{collectionIs}
 use Rattle.collector.specs.declared.Collection.{Collection}
 use Rattle.collector.specs.declared.Collection.the-variants as C
-use Rattle.model.specs.Opening.{Opening}
-use Rattle.model.specs.Replies.{Lent, list}
-use Rattle.record.specs.Record.{OpensWords, loaded, openedIn}
+use Rattle.model.specs.Replies.{list}
 use Rattle.heap_bench.specs.Loops.{Collects, Filled, Ran, Summed, calls, freedWord, readWord, total, visitWord, words, wordShown}
 
 -- the words of answers are what is shown
@@ -59,29 +52,6 @@ freed-word : (a : Collection) (ws : List ℕ) → freedWord a ≡ wordShown (col
 unfolding freedWord shownOf withLent answerShown replyShown collectionIs
 freed-word (C.Done freed listed) ws = refl
 freed-word (C.Refused q) ws = refl
-
--- a refused opening is refused with 10
-opened-refused : (b : Bool) (h : Heap) (q : Refusal) → Refused q ≡ openedBy b h → openedBy b h ≡ Refused BadOpening
-unfolding openedBy
-opened-refused true h q e = let z : _≡_ {A = ℕ} 0 1 = cc e in absurd (omega arith)
-opened-refused false h q e = refl
-
-module _ (o : Opening) (t : State) (x : Beside) (before : List ℕ) (r : Opened) (y : Beside) (O : Opens o t x r y) where
-  pub opens-ready : (h : Heap) (after : List ℕ) → r ≡ Ready h → loaded after ≡ h → OpensWords o t x before 0 after y
-  unfolding openedIn openedNumber
-  opens-ready h after e f = record {
-    opens = subst (λ (q : Opened). Opens o t x q y) (e ∙ ap Ready (sym f)) O;
-    returned = refl;
-    kept = λ n. absurd (n refl);
-  }
-
-  pub opens-refused : (q : Refusal) → r ≡ Refused q → OpensWords o t x before 10 before y
-  unfolding openedIn openedNumber numberOf
-  opens-refused q e = record {
-    opens = subst (λ (p : Opened). Opens o t x p y) (O .answer ∙ opened-refused _ _ q (sym e ∙ O .answer)) O;
-    returned = refl;
-    kept = λ n. refl;
-  }
 
 -- the buffers are as long as they were
 pub record Sizes (b a : State) : Type 0 where

@@ -2,9 +2,7 @@
 use collections::Perhaps;
 use collector::Collection;
 use heap::Heap;
-use heap::Opened;
 use heap::Reading;
-use model::Weights;
 ghost use mathlib.Core.Path.{_≡_};
 ghost use lib.ListN.{length};
 ghost use Rattle.layout.specs.Sections.{Tabled, layoutOf};
@@ -497,17 +495,11 @@ pub extern "C" fn heap_bench_open(
 ) -> u64
     ensures { λ r. ⌜ OpensWords (openingOf size (length (now (cells .entry))) limit (weightsIn (now (weights .entry))) (now (layout .entry))) (state (newHeap size limit (weightsIn (now (weights .entry)))) (now (slots .entry)) (now (scalars .entry)) (now (list .entry)) (now (directory .entry)) (now (cells .entry))) (beside (now (table .entry)) (now (marks .entry)) (now (order .entry))) (now (heap .entry)) r (now (heap .exit)) (beside (now (table .exit)) (now (marks .exit)) (now (order .exit))) ⌝ }
 {
-    let w = Weights {
-        slot: weights[0],
-        entry: weights[1],
-        iterator: weights[2],
-        coroutine: weights[3],
-        frame: weights[4],
-    };
-    let opened = heap::open(
+    record::open(
+        heap,
         size,
         limit,
-        w,
+        weights,
         layout,
         table,
         marks,
@@ -517,12 +509,5 @@ pub extern "C" fn heap_bench_open(
         list,
         directory,
         cells,
-    );
-    match opened {
-        Opened::Ready(h) => {
-            record::save(heap, h);
-            0
-        }
-        Opened::Refused(q) => 10,
-    }
+    )
 }

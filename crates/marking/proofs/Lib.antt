@@ -4,4 +4,3 @@ pub mod Doing
 pub mod Traced
 pub mod Objects
 pub mod Scanning
-pub mod Undoing

@@ -1,5 +1,5 @@
 -- The queue in the making, and the two parts of a phase.
-use mathlib.Core.Path.{_≡_, refl, sym, ap, _∙_}
+use mathlib.Core.Path.{_≡_, refl, _∙_}
 use mathlib.Core.Logic.{⊎-elim}
 use mathlib.Core.List.{List, [], _∷_, _++_, List·Memᴰ, List·Memᴰ·head, List·Memᴰ·tail, List·Memᴰ·append-cases, Memᴰ·append-left, Memᴰ·append-right}
 use Prim.Native.Nat.{ℕ, zero, suc, _+_, _-_, _≤_, _<_}
@@ -7,10 +7,10 @@ use native.Mathlib.Omega.{arith}
 use native.Mathlib.Numerals.{add-one}
 use lib.ListN.{length, getD, take, drop, drop-of-length-le}
 use lib.Seq.{drop-cons, drop-append-le, drop-at, getD-take, length-take-le}
-use Rattle.marking.specs.Reach.{Marked, ones, after, queued, run, phase}
+use Rattle.marking.specs.Reach.{ones, queued, run, phase}
 use Rattle.marking.specs.Children.{hit}
 use Rattle.marking.specs.Marks.{Ready, Marks, Present, Listing, Scanned, Phased}
-use Rattle.marking.proofs.ReachLaws.{ones-le, Many, many, after-ones}
+use Rattle.marking.proofs.ReachLaws.{ones-le, many}
 use Rattle.marking.proofs.Bridge.{hit-is}
 use Rattle.marking.proofs.Doing.{drop-onward, grows}
 

@@ -37,12 +37,6 @@ pub record Listing (s : List ℕ) (n : ℕ) (m o : List ℕ) (k : ℕ) : Type 0 
   pub all : (i : ℕ) → Marked m i → List·Memᴰ i (take k o)
   pub each : (i : ℕ) → List·Memᴰ i (take k o) → Present s n i
 
--- what it takes to undo the marks by the order's first k places
-pub record Tracked (m o : List ℕ) (k : ℕ) : Type 0 where
-  pub room : k ≤ length o
-  pub all : (i : ℕ) → Marked m i → List·Memᴰ i (take k o)
-  pub inside : (i : ℕ) → List·Memᴰ i (take k o) → i < length m
-
 -- no slot is marked, and the places that were taken hold 0
 pub record Unmarked (m o : List ℕ) (k : ℕ) (m′ o′ : List ℕ) : Type 0 where
   pub marks : m′ ≡ replicate (length m) 0

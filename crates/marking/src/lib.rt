@@ -14,7 +14,7 @@ ghost use Rattle.slots.specs.Header.{scalarsAt};
 ghost use Rattle.heap.specs.Kinds.{yes, perhaps, frameAt, framesIn};
 ghost use Rattle.marking.specs.Reach.{run};
 ghost use Rattle.marking.specs.Children.{hit, children, liveWords, oneFrame};
-ghost use Rattle.marking.specs.Marks.{Ready, Marks, Sound, Listing, Present, Scanned, Phased, Tracked, Unmarked};
+ghost use Rattle.marking.specs.Marks.{Ready, Marks, Sound, Listing, Present, Scanned, Phased, Unmarked};
 use layout::Listed;
 
 // Marks the slot that the word reaches, if it is not marked, and puts it into the order. Gives the
@@ -689,16 +689,13 @@ pub fn mark_from(
     )
 }
 
-// Undoes the marks, and the order's first places, at the cost of the marked slots.
+// Undoes the marks, and the order's first places. All marks are cleared in one pass: to follow the
+// order would be slower.
 pub fn unmark(marks: &mut [u8], order: &mut [u32], marked: usize)
-    requires { ⌜ Tracked (now marks) (now order) marked ⌝ }
+    requires { ⌜ marked ≤ length (now order) ⌝ }
     ensures { λ r. ⌜ Unmarked (now (marks .entry)) (now (order .entry)) marked (now (marks .exit)) (now (order .exit)) ⌝ }
 {
-    let mut i: usize = 0;
-    while i < marked {
-        let slot = order[i] as usize;
-        marks[slot] = 0;
-        order[i] = 0;
-        i += 1;
-    }
+    let all = marks.len();
+    heap::clear_marks(marks, all);
+    heap::clear_order(order, marked);
 }

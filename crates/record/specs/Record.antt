@@ -10,6 +10,7 @@ use Rattle.account.specs.declared.Account.{Account}
 use Rattle.model.specs.Opening.{Opening}
 use Rattle.model.specs.declared.Weights.{Weights}
 use Rattle.heap.specs.State.{State}
+use Rattle.heap.specs.Answers.{numberOf}
 use Rattle.heap.specs.Opens.{Beside, Opens, openedNumber}
 use Rattle.heap.specs.declared.Heap.{Heap}
 use Rattle.heap.specs.declared.Opened.{Opened}
@@ -45,6 +46,11 @@ loaded ws = record {
 -- an opening that returned r and left these words
 unfoldable pub openedIn : ℕ → List ℕ → Opened
 openedIn r words = cond (eqb r 0) (Ready (loaded words)) (Refused BadOpening)
+
+-- what became of an opening: the words before and after, and the number returned
+unfoldable pub Settles : Opened → List ℕ → ℕ → List ℕ → Type 0
+Settles (Ready h) before r after = (r ≡ 0) × (loaded after ≡ h)
+Settles (Refused q) before r after = (r ≡ numberOf q) × (after ≡ before)
 
 -- t: the new record over the buffers; x and y: what is lent beside them, before and after
 pub record OpensWords (o : Opening) (t : State) (x : Beside) (before : List ℕ) (r : ℕ) (after : List ℕ) (y : Beside) : Type 0 where

@@ -3,7 +3,7 @@
 ghost use mathlib.Core.Path.{_≡_};
 ghost use Prim.Native.Nat.{_*_, _≤_};
 ghost use lib.ListN.{length};
-ghost use Rattle.replaying.specs.Turns.{Sits};
+ghost use Rattle.replaying.specs.Turns.{SessionReady};
 use libc::STDIN_FILENO;
 use libc::STDOUT_FILENO;
 use replaying::Session;
@@ -39,7 +39,7 @@ fn play(
     places: &mut [u64],
     out: &mut [u8],
 )
-    requires { ⌜ Sits (now input) (now slots) (now scalars) (now list) (now directory) (now cells) (now marks) (now order) (now table) first ⌝ }
+    requires { ⌜ SessionReady (now input) (now slots) (now scalars) (now list) (now directory) (now cells) (now marks) (now order) (now table) first ⌝ }
     requires { ⌜ (length (now input) ≤ 8 * length (now words)) × (64 ≤ length (now roots)) × (65536 ≤ length (now cells)) ⌝ }
     requires { ⌜ (length (now places) ≡ 65536) × (524288 ≤ length (now bytes)) × (length (now input) ≤ length (now bytes)) × (1114279 ≤ length (now out)) ⌝ }
 {

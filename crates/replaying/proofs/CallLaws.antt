@@ -25,18 +25,19 @@ use Rattle.model.specs.declared.Weights.{Weights}
 use Rattle.heap.specs.Opens.{Beside, Opens, accepts, beside, newHeap, openedBy, openingOf}
 use Rattle.heap.specs.Promise.{Reads}
 use Rattle.heap.specs.State.{State, modelOf, state}
+use Rattle.heap.specs.Good.{Ready}
 use Rattle.text.specs.Puts.{Puts}
 use Rattle.commands.specs.declared.Operands.{Operands}
 use Rattle.commands.specs.declared.Performed.{Performed}
 use Rattle.commands.specs.declared.Performed.the-variants.{Known, Unknown}
 use Rattle.commands.specs.declared.Shown.{Shown}
 use Rattle.commands.specs.Commands.{commandCall}
-use Rattle.commands.specs.Lists.{CommandedBy, Ready}
+use Rattle.commands.specs.Lists.{CommandedBy}
 use Rattle.commands.specs.Shows.{shownOf}
 use Rattle.replaying.specs.Lines.{lineText}
 use Rattle.history.proofs.Facts.{eqb-no, eqb-yes, leb-no, leb-yes}
 use Rattle.slots.proofs.Cases.{by-cases, same-or-not}
-use Rattle.replaying.specs.Turns.{CallLine, EndLine, Filled, Goes, RootLine, Sits, adjusted, callCode, filled, importWord, layoutIn, lentBytes, lentPlaces, movedTo, openCells, openKind, openSlots, openedText, openingIn, heapIn, performedText, seated, shownBytes}
+use Rattle.replaying.specs.Turns.{CallLine, EndLine, Filled, Advances, RootLine, SessionReady, adjusted, callCode, filled, importWord, layoutIn, lentBytes, lentPlaces, movedTo, openCells, openKind, openSlots, openedText, openingIn, heapIn, performedText, seated, shownBytes}
 use Rattle.replaying.specs.declared.Session.{Session}
 use Rattle.script.specs.declared.Call.{Call}
 use Rattle.replaying.specs.declared.Started.the-variants as Start
@@ -147,17 +148,17 @@ module _ {o : Opening} {t : State} {x y : Beside} {r : Opened} (k : Opens o t x 
       go false z a = k .refused z
 
 pub opened-sits : {input s x f d c marks order table marks′ order′ table′ : List ℕ} {size limit : ℕ} {weights : Weights} (n from to at end : ℕ) {a : Opened} (h : Heap) → Opens (openingOf size n limit weights (take (to - from) (drop from input))) (state (newHeap size limit weights) s x f d (take n c)) (beside table marks order) a (beside table′ marks′ order′) → a ≡ Open.Ready h →
-    n ≤ length c → from ≤ to → to ≤ length input → at ≤ length input → Sits input s x f d c marks′ order′ table′ (record { heap = h; count = 0; room = n; from = from; to = to; at = at; end = end })
+    n ≤ length c → from ≤ to → to ≤ length input → at ≤ length input → SessionReady input s x f d c marks′ order′ table′ (record { heap = h; count = 0; room = n; from = from; to = to; at = at; end = end })
 opened-sits n from to at end h k e room low within inside =
     let y = opened-yes k h e in
     let q = k .accepted (y .0) in
     record { ready = rw (y .1) record { good = q .good; rested = q .rested; tabled = q .tabled }; room = room; layout = low; within = within; few = omega arith; inside = inside }
 
-pub moved-sits : {input s x f d c marks order table : List ℕ} {p : Session} (count at end : ℕ) → Sits input s x f d c marks order table p → count ≤ 64 → at ≤ length input → Sits input s x f d c marks order table (movedTo p count at end)
+pub moved-sits : {input s x f d c marks order table : List ℕ} {p : Session} (count at end : ℕ) → SessionReady input s x f d c marks order table p → count ≤ 64 → at ≤ length input → SessionReady input s x f d c marks order table (movedTo p count at end)
 moved-sits count at end g few inside = record { ready = g .ready; room = g .room; layout = g .layout; within = g .within; few = few; inside = inside }
 
 -- a refused opening leaves what is lent beside as it was
-pub kept-sits : {o : Opening} {t : State} {input s x f d c marks order table marks′ order′ table′ : List ℕ} {p : Session} {a : Opened} (q : Refusal) → Opens o t (beside table marks order) a (beside table′ marks′ order′) → a ≡ Open.Refused q → Sits input s x f d c marks order table p → Sits input s x f d c marks′ order′ table′ p
+pub kept-sits : {o : Opening} {t : State} {input s x f d c marks order table marks′ order′ table′ : List ℕ} {p : Session} {a : Opened} (q : Refusal) → Opens o t (beside table marks order) a (beside table′ marks′ order′) → a ≡ Open.Refused q → SessionReady input s x f d c marks order table p → SessionReady input s x f d c marks′ order′ table′ p
 kept-sits q k e g =
     let y = opened-no k q e in
     rw (ap (λ (z : Beside). z .marks) y, ap (λ (z : Beside). z .order) y, ap (λ (z : Beside). z .table) y) g
@@ -165,24 +166,24 @@ kept-sits q k e g =
 pub cells-few : (slots cells kind n : ℕ) → kind ≡ openKind slots cells → n ≡ openCells kind cells → n ≤ 65536
 cells-few slots cells kind n e z = rw (z, e) (cells-fit slots cells)
 
-pub started-sits : {input s x f d c marks order table : List ℕ} (q p : Session) → Start.Ready q ≡ Start.Ready p → Sits input s x f d c marks order table q → Sits input s x f d c marks order table p
+pub started-sits : {input s x f d c marks order table : List ℕ} (q p : Session) → Start.Ready q ≡ Start.Ready p → SessionReady input s x f d c marks order table q → SessionReady input s x f d c marks order table p
 started-sits q p e g = let z : q ≡ p = cc in rw z at g
 
 -- ---- turns
 
-module _ {input s x f d c marks order table : List ℕ} {p r : Session} {used : ℕ} {out out′ : List ℕ} (g : Sits input s x f d c marks order table p) where
-  pub ended-turn : EndLine p used (length input) out out′ r → (next : ℕ) → next ≤ length input → Sits input s x f d c marks order table r × (Goes next (length input) (r .at) × (r .end ≤ length out′))
+module _ {input s x f d c marks order table : List ℕ} {p r : Session} {used : ℕ} {out out′ : List ℕ} (g : SessionReady input s x f d c marks order table p) where
+  pub ended-turn : EndLine p used (length input) out out′ r → (next : ℕ) → next ≤ length input → SessionReady input s x f d c marks order table r × (Advances next (length input) (r .at) × (r .end ≤ length out′))
   ended-turn k next h =
       let e = ap (λ (q : Session). q .at) (k .same) in
-      (subst (λ (q : Session). Sits input s x f d c marks order table q) (sym (k .same)) (moved-sits (p .count) (length input) (r .end) g (g .few) (omega arith)), (record { onward = omega (arith, e); within = omega (arith, e) }, puts-within (k .text)))
+      (subst (λ (q : Session). SessionReady input s x f d c marks order table q) (sym (k .same)) (moved-sits (p .count) (length input) (r .end) g (g .few) (omega arith)), (record { onward = omega (arith, e); within = omega (arith, e) }, puts-within (k .text)))
 
-  pub ended-later : EndLine p used (length input) out out′ r → p .at < length input → Sits input s x f d c marks order table r × ((p .at < r .at) × (r .end ≤ length out′))
+  pub ended-later : EndLine p used (length input) out out′ r → p .at < length input → SessionReady input s x f d c marks order table r × ((p .at < r .at) × (r .end ≤ length out′))
   ended-later k h = let t = ended-turn k (length input) (omega arith) in (t .0, (omega (arith, t .1 .0), t .1 .1))
 
-  pub rooted-later : {w next : ℕ} {before after : List ℕ} → RootLine p w next used before out after out′ r → p .at < next → next ≤ length input → Sits input s x f d c marks order table r × ((p .at < r .at) × (r .end ≤ length out′))
+  pub rooted-later : {w next : ℕ} {before after : List ℕ} → RootLine p w next used before out after out′ r → p .at < next → next ≤ length input → SessionReady input s x f d c marks order table r × ((p .at < r .at) × (r .end ≤ length out′))
   rooted-later {next = next} k h l =
       let e = ap (λ (q : Session). q .at) (k .same) in
-      (subst (λ (q : Session). Sits input s x f d c marks order table q) (sym (k .same)) (moved-sits (r .count) next (r .end) g (k .few) l), (omega (arith, e), puts-within (k .text)))
+      (subst (λ (q : Session). SessionReady input s x f d c marks order table q) (sym (k .same)) (moved-sits (r .count) next (r .end) g (k .few) l), (omega (arith, e), puts-within (k .text)))
 
 -- every call but 26 is lent its string
 pub lent-string : (n size text : ℕ) {r : ℕ} → r ≡ cond (eqb n 0x26) size text → (n ≡ 0x26 → ⊥) → r ≡ text

@@ -12,8 +12,9 @@ use Rattle.model.specs.Calls.{is-import}
 use Rattle.model.specs.Step.{step}
 use Rattle.model.specs.Callsheet.{digits, printed}
 use Rattle.heap.specs.State.{State, modelOf, state}
+use Rattle.heap.specs.Good.{Ready}
 use Rattle.heap.specs.declared.Opened.{Opened}
-use Rattle.heap.specs.declared.Opened.the-variants as Ready-
+use Rattle.heap.specs.declared.Opened.the-variants as Open
 use Rattle.text.specs.Puts.{Puts}
 use Rattle.commands.specs.declared.Operands.{Operands}
 use Rattle.commands.specs.declared.Performed.{Performed}
@@ -21,7 +22,7 @@ use Rattle.commands.specs.declared.Performed.the-variants.{Known, Unknown}
 use Rattle.commands.specs.declared.Shown.{Shown}
 use Rattle.commands.specs.Commands.{commandCall}
 use Rattle.commands.specs.Shows.{shownOf}
-use Rattle.commands.specs.Lists.{CommandedBy, Ready}
+use Rattle.commands.specs.Lists.{CommandedBy}
 use Rattle.model.specs.Opening.{Opening}
 use Rattle.model.specs.declared.Weights.{Weights}
 use Rattle.heap.specs.declared.Heap.{Heap}
@@ -60,7 +61,7 @@ abbrev pub layoutIn : List ℕ → Session → List ℕ
 layoutIn input p = take (p .to - p .from) (drop (p .from) input)
 
 -- between commands
-pub record Sits (input s x f d c marks order table : List ℕ) (p : Session) : Type 0 where
+pub record SessionReady (input s x f d c marks order table : List ℕ) (p : Session) : Type 0 where
   pub ready : Ready (seated s x f d c p) marks order (layoutIn input p) table
   pub room : p .room ≤ length c
   pub layout : p .from ≤ p .to
@@ -78,7 +79,7 @@ pub record CallLine (l : Layout) (n : ℕ) (o : Operands) (words frames : List �
   pub text : Puts (performedText n (o .c) second performed (a .heap .account .used) places′ (take (shownBytes n (length bytes′)) bytes′)) out 0 out′ end
 
 -- the next command stands at next, or the script ends
-pub record Goes (next length at : ℕ) : Type 0 where
+pub record Advances (next length at : ℕ) : Type 0 where
   pub onward : next ≤ at
   pub within : at ≤ length
 
@@ -123,8 +124,8 @@ unfoldable pub openCells : ℕ → ℕ → ℕ
 openCells kind cells = cond (eqb kind 0) cells 0
 
 unfoldable pub openedText : ℕ → ℕ → Opened → List ℕ
-openedText kind used (Ready-.Ready h) = cond (eqb kind 1) (printed (63 ∷ 63 ∷ []) 4 0 used) (printed (digits 16 2 0) 0 0 (h .account .used))
-openedText kind used (Ready-.Refused q) = printed (digits 16 2 0) 10 0 used
+openedText kind used (Open.Ready h) = cond (eqb kind 1) (printed (63 ∷ 63 ∷ []) 4 0 used) (printed (digits 16 2 0) 0 0 (h .account .used))
+openedText kind used (Open.Refused q) = printed (digits 16 2 0) 10 0 used
 
 -- the command 00: what was opened, and its line
 pub record OpenLine (o : Opening) (t : State) (x : Beside) (kind used : ℕ) (out : List ℕ) (y : Beside) (out′ : List ℕ) (end : ℕ) : Type 0 where

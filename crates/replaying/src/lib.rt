@@ -9,11 +9,11 @@ ghost use lib.ListN.{length, getD, take, drop};
 ghost use Rattle.layout.specs.Layout.{Layout};
 ghost use Rattle.layout.specs.Sections.{layoutOf};
 ghost use Rattle.heap.specs.State.{state};
-ghost use Rattle.heap.specs.Good.{Good};
+ghost use Rattle.heap.specs.Good.{Good, Ready};
 ghost use Rattle.heap.specs.Opens.{Opens, beside, newHeap, openingOf};
 ghost use Rattle.commands.specs.Commands.{commandCall};
-ghost use Rattle.commands.specs.Lists.{CommandedBy, Ready};
-ghost use Rattle.replaying.specs.Turns.{CallLine, EndLine, Filled, Goes, LentLine, OpenLine, RootLine, Sits, Turned, adjusted, callCode, heapIn, importWord, layoutIn, movedTo, openCells, openKind, openSlots, openedText, openingIn, performedText, seated, shownBytes, weightsIn};
+ghost use Rattle.commands.specs.Lists.{CommandedBy};
+ghost use Rattle.replaying.specs.Turns.{CallLine, EndLine, Filled, Advances, LentLine, OpenLine, RootLine, SessionReady, Turned, adjusted, callCode, heapIn, importWord, layoutIn, movedTo, openCells, openKind, openSlots, openedText, openingIn, performedText, seated, shownBytes, weightsIn};
 ghost use Rattle.script.specs.Reads as Script;
 ghost use Rattle.text.specs.Puts.{Puts};
 ghost use Rattle.replaying.specs.Lines.{answerForms, bufferText, extraText, fieldText, forms, formsOf, hasSecond, hexText, lentText, lineText, listText, withLast, withSecond};
@@ -331,7 +331,7 @@ fn perform_in(
     bytes: &mut [u8],
     places: &mut [u64],
 ) -> Turn
-    requires { ⌜ Sits (now input) (now slots) (now scalars) (now list) (now directory) (now cells) (now marks) (now order) (now table) p ⌝ }
+    requires { ⌜ SessionReady (now input) (now slots) (now scalars) (now list) (now directory) (now cells) (now marks) (now order) (now table) p ⌝ }
     ensures { λ r. ⌜ CommandedBy (layoutOf (layoutIn (now (input .entry)) p)) (callCode code) (seated (now (slots .entry)) (now (scalars .entry)) (now (list .entry)) (now (directory .entry)) (now (cells .entry)) p) (now (bytes .entry)) (now (places .entry)) (commandCall (callCode code) o (now (words .entry)) (now (frames .entry)) (now (bytes .entry)) (now (places .entry))) (r .performed) (state (r .heap) (now (slots .exit)) (now (scalars .exit)) (now (list .exit)) (now (directory .exit)) (take (p .room) (now (cells .exit)))) (now (bytes .exit)) (now (places .exit)) ⌝ }
     ensures { λ r. ⌜ Ready (state (r .heap) (now (slots .exit)) (now (scalars .exit)) (now (list .exit)) (now (directory .exit)) (take (p .room) (now (cells .exit)))) (now (marks .exit)) (now (order .exit)) (layoutIn (now (input .entry)) p) (now (table .entry)) ⌝ }
 {
@@ -361,7 +361,7 @@ fn perform_in(
 // Where the next command stands; an unknown command ends the script.
 fn after(p: Performed, next: usize, len: usize) -> usize
     requires { ⌜ next ≤ len ⌝ }
-    ensures { λ r. ⌜ Goes next len r ⌝ }
+    ensures { λ r. ⌜ Advances next len r ⌝ }
 {
     match p {
         Performed::Known(s) => next,
@@ -390,12 +390,12 @@ fn call_turn(
     next: usize,
     out: &mut [u8],
 ) -> Session
-    requires { ⌜ Sits (now input) (now slots) (now scalars) (now list) (now directory) (now cells) (now marks) (now order) (now table) p ⌝ }
+    requires { ⌜ SessionReady (now input) (now slots) (now scalars) (now list) (now directory) (now cells) (now marks) (now order) (now table) p ⌝ }
     requires { ⌜ (next ≤ length (now input)) × (1114279 ≤ length (now out)) × (length (now places) ≤ 65536) ⌝ }
     requires { ⌜ (code ≡ 0x26 → length (now bytes) ≤ 524288) ⌝ }
-    ensures { λ r. ⌜ Sits (now (input .entry)) (now (slots .exit)) (now (scalars .exit)) (now (list .exit)) (now (directory .exit)) (now (cells .exit)) (now (marks .exit)) (now (order .exit)) (now (table .entry)) r ⌝ }
+    ensures { λ r. ⌜ SessionReady (now (input .entry)) (now (slots .exit)) (now (scalars .exit)) (now (list .exit)) (now (directory .exit)) (now (cells .exit)) (now (marks .exit)) (now (order .exit)) (now (table .entry)) r ⌝ }
     ensures { λ r. ⌜ CallLine (layoutOf (layoutIn (now (input .entry)) p)) code o (now (words .entry)) (now (frames .entry)) (seated (now (slots .entry)) (now (scalars .entry)) (now (list .entry)) (now (directory .entry)) (now (cells .entry)) p) (now (bytes .entry)) (now (places .entry)) (now (out .entry)) (seated (now (slots .exit)) (now (scalars .exit)) (now (list .exit)) (now (directory .exit)) (now (cells .exit)) r) (now (bytes .exit)) (now (places .exit)) (now (out .exit)) (r .end) ⌝ }
-    ensures { λ r. ⌜ Goes next (length (now (input .entry))) (r .at) ⌝ }
+    ensures { λ r. ⌜ Advances next (length (now (input .entry))) (r .at) ⌝ }
     ensures { λ r. ⌜ r .end ≤ length (now (out .exit)) ⌝ }
 {
     let t = perform_in(
@@ -667,7 +667,7 @@ fn weights_in(call: Call) -> Weights
 fn opened(h: Heap, kind: u64, room: usize, call: Call, len: usize, end: usize) -> Session
     requires { ⌜ call .next ≤ len ⌝ }
     ensures { λ r. ⌜ r ≡ record { heap = h; count = 0; room = room; from = call .from; to = call .to; at = r .at; end = end } ⌝ }
-    ensures { λ r. ⌜ Goes (call .next) len (r .at) ⌝ }
+    ensures { λ r. ⌜ Advances (call .next) len (r .at) ⌝ }
 {
     let mut at = call.next;
     if kind == 1 {
@@ -700,12 +700,12 @@ fn open_turn(
     input: &[u8],
     out: &mut [u8],
 ) -> Session
-    requires { ⌜ Sits (now input) (now slots) (now scalars) (now list) (now directory) (now cells) (now marks) (now order) (now table) p ⌝ }
+    requires { ⌜ SessionReady (now input) (now slots) (now scalars) (now list) (now directory) (now cells) (now marks) (now order) (now table) p ⌝ }
     requires { ⌜ (call .from ≤ call .to) × (call .to ≤ length (now input)) × (call .next ≤ length (now input)) ⌝ }
     requires { ⌜ (65536 ≤ length (now cells)) × (62 ≤ length (now out)) ⌝ }
-    ensures { λ r. ⌜ Sits (now (input .entry)) (now (slots .entry)) (now (scalars .entry)) (now (list .entry)) (now (directory .entry)) (now (cells .entry)) (now (marks .exit)) (now (order .exit)) (now (table .exit)) r ⌝ }
+    ensures { λ r. ⌜ SessionReady (now (input .entry)) (now (slots .entry)) (now (scalars .entry)) (now (list .entry)) (now (directory .entry)) (now (cells .entry)) (now (marks .exit)) (now (order .exit)) (now (table .exit)) r ⌝ }
     ensures { λ r. ⌜ OpenLine (openingIn (now (input .entry)) call) (state (heapIn call) (now (slots .entry)) (now (scalars .entry)) (now (list .entry)) (now (directory .entry)) (take (openCells (openKind (call .operands .a) (call .operands .b)) (call .operands .b)) (now (cells .entry)))) (beside (now (table .entry)) (now (marks .entry)) (now (order .entry))) (openKind (call .operands .a) (call .operands .b)) used (now (out .entry)) (beside (now (table .exit)) (now (marks .exit)) (now (order .exit))) (now (out .exit)) (r .end) ⌝ }
-    ensures { λ r. ⌜ Goes (call .next) (length (now (input .entry))) (r .at) ⌝ }
+    ensures { λ r. ⌜ Advances (call .next) (length (now (input .entry))) (r .at) ⌝ }
 {
     let o = call.operands;
     let kind = open_kind(o.a, o.b);
@@ -756,11 +756,11 @@ fn lent_turn(
     used: u64,
     out: &mut [u8],
 ) -> Session
-    requires { ⌜ Sits (now input) (now slots) (now scalars) (now list) (now directory) (now cells) (now marks) (now order) (now table) p ⌝ }
+    requires { ⌜ SessionReady (now input) (now slots) (now scalars) (now list) (now directory) (now cells) (now marks) (now order) (now table) p ⌝ }
     requires { ⌜ (call .from ≤ call .to) × (call .to ≤ length (now input)) × (call .next ≤ length (now input)) × (call .words + call .frames ≤ length (now words)) ⌝ }
     requires { ⌜ (length (now places) ≡ 65536) × (524288 ≤ length (now bytes)) × (length (now input) ≤ length (now bytes)) × (1114279 ≤ length (now out)) ⌝ }
-    ensures { λ r. ⌜ Sits (now (input .entry)) (now (slots .exit)) (now (scalars .exit)) (now (list .exit)) (now (directory .exit)) (now (cells .exit)) (now (marks .exit)) (now (order .exit)) (now (table .entry)) r ⌝ }
-    ensures { λ r. ⌜ Goes (call .next) (length (now (input .entry))) (r .at) ⌝ }
+    ensures { λ r. ⌜ SessionReady (now (input .entry)) (now (slots .exit)) (now (scalars .exit)) (now (list .exit)) (now (directory .exit)) (now (cells .exit)) (now (marks .exit)) (now (order .exit)) (now (table .entry)) r ⌝ }
+    ensures { λ r. ⌜ Advances (call .next) (length (now (input .entry))) (r .at) ⌝ }
     ensures { λ r. ⌜ r .end ≤ length (now (out .exit)) ⌝ }
     ensures { λ r. ⌜ LentLine (now (input .entry)) (now (words .entry)) code used call p (seated (now (slots .entry)) (now (scalars .entry)) (now (list .entry)) (now (directory .entry)) (now (cells .entry)) p) (now (out .entry)) r (seated (now (slots .exit)) (now (scalars .exit)) (now (list .exit)) (now (directory .exit)) (now (cells .exit)) r) (now (out .exit)) ⌝ }
 {
@@ -843,10 +843,10 @@ pub fn turn(
     places: &mut [u64],
     out: &mut [u8],
 ) -> Session
-    requires { ⌜ Sits (now input) (now slots) (now scalars) (now list) (now directory) (now cells) (now marks) (now order) (now table) p ⌝ }
+    requires { ⌜ SessionReady (now input) (now slots) (now scalars) (now list) (now directory) (now cells) (now marks) (now order) (now table) p ⌝ }
     requires { ⌜ (p .at < length (now input)) × (length (now input) ≤ 8 * length (now words)) × (64 ≤ length (now roots)) × (65536 ≤ length (now cells)) ⌝ }
     requires { ⌜ (length (now places) ≡ 65536) × (524288 ≤ length (now bytes)) × (length (now input) ≤ length (now bytes)) × (1114279 ≤ length (now out)) ⌝ }
-    ensures { λ r. ⌜ Sits (now (input .entry)) (now (slots .exit)) (now (scalars .exit)) (now (list .exit)) (now (directory .exit)) (now (cells .exit)) (now (marks .exit)) (now (order .exit)) (now (table .exit)) r ⌝ }
+    ensures { λ r. ⌜ SessionReady (now (input .entry)) (now (slots .exit)) (now (scalars .exit)) (now (list .exit)) (now (directory .exit)) (now (cells .exit)) (now (marks .exit)) (now (order .exit)) (now (table .exit)) r ⌝ }
     ensures { λ r. ⌜ p .at < r .at ⌝ }
     ensures { λ r. ⌜ r .end ≤ length (now (out .exit)) ⌝ }
     ensures { λ r. ⌜ Turned (now (input .entry)) (record { slots = now (slots .entry); scalars = now (scalars .entry); list = now (list .entry); directory = now (directory .entry); cells = now (cells .entry); marks = now (marks .entry); order = now (order .entry); table = now (table .entry); roots = now (roots .entry); words = now (words .entry); places = now (places .entry); out = now (out .entry) }) p (record { slots = now (slots .exit); scalars = now (scalars .exit); list = now (list .exit); directory = now (directory .exit); cells = now (cells .exit); marks = now (marks .exit); order = now (order .exit); table = now (table .exit); roots = now (roots .exit); words = now (words .exit); places = now (places .exit); out = now (out .exit) }) r ⌝ }
@@ -941,7 +941,7 @@ pub fn start(
     input: &[u8],
 ) -> Started
     requires { ⌜ (2048 ≤ length (now cells)) × (1 ≤ length (now input)) ⌝ }
-    ensures { λ r. ⌜ ((p : Session) → r ≡ Started.Ready p → Sits (now (input .entry)) (now (slots .entry)) (now (scalars .entry)) (now (list .entry)) (now (directory .entry)) (now (cells .entry)) (now (marks .exit)) (now (order .exit)) (now (table .exit)) p) ⌝ }
+    ensures { λ r. ⌜ ((p : Session) → r ≡ Started.Ready p → SessionReady (now (input .entry)) (now (slots .entry)) (now (scalars .entry)) (now (list .entry)) (now (directory .entry)) (now (cells .entry)) (now (marks .exit)) (now (order .exit)) (now (table .exit)) p) ⌝ }
 {
     let weights = Weights {
         slot: 64,

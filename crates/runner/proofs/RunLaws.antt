@@ -21,6 +21,7 @@ use Rattle.model.specs.Step.{step}
 use Rattle.model.specs.Demand3.{run}
 use Rattle.heap.specs.declared.Heap.{Heap}
 use Rattle.heap.specs.State.{State, modelOf, state}
+use Rattle.heap.specs.Good.{Ready}
 use Rattle.commands.specs.declared.Shown.{Shown}
 use Rattle.commands.specs.declared.Performed.{Performed}
 use Rattle.commands.specs.declared.Performed.the-variants.{Known, Unknown}
@@ -30,7 +31,7 @@ use Rattle.script.specs.Parse.{Called, calledBy}
 use Rattle.script.specs.Reads.{Reads, calledIs}
 use Rattle.runner.specs.declared.Progress.{Progress}
 use Rattle.runner.specs.declared.Ran.{Ran}
-use Rattle.commands.specs.Lists.{CommandedBy, Ready, known-command, unknown-command}
+use Rattle.commands.specs.Lists.{CommandedBy, known-command, unknown-command}
 use Rattle.runner.specs.Scripts.{Turned, callIn, callsFrom, callsOf, turnOf, turnedBy}
 use Rattle.runner.specs.Runs.{Onward, Runs, advancedOf, ranOf, refusals, refusedOne, turnAt}
 

@@ -5,7 +5,7 @@ ghost use Prim.Native.Nat.{_-_, _*_, _≤_, _<_};
 ghost use lib.ListN.{length, replicate, take, drop};
 ghost use Rattle.layout.specs.Sections.{layoutOf};
 ghost use Rattle.heap.specs.State.{state};
-ghost use Rattle.commands.specs.Lists.{Ready};
+ghost use Rattle.heap.specs.Good.{Ready};
 ghost use Rattle.runner.specs.Scripts.{bytesFor, bytesLent, callIn, callsOf, numbered, placesLent, turnedBy};
 ghost use Rattle.runner.specs.Runs.{Onward, Runs, advancedOf, refusedOne, ranOf, turnAt};
 use commands::Operands;

@@ -16,13 +16,13 @@ use Rattle.model.specs.Opening.{Opening, open-heap, openWith, sizesFit}
 use Rattle.model.specs.Terms.{is-some}
 use Rattle.model.specs.Callsheet.{sheetHeap, sheetOpening, sheetText}
 use Rattle.heap.specs.State.{modelOf, state}
+use Rattle.heap.specs.Good as Good
 use Rattle.heap.specs.Opens.{Beside, Opens, accepts, newHeap, openedBy, openingOf, roomFor}
 use Rattle.heap.specs.declared.Heap.{Heap}
 use Rattle.heap.specs.declared.Opened.{Opened}
 use Rattle.heap.specs.declared.Opened.the-variants.{Ready, Refused}
 use Rattle.heap.specs.declared.Refusal.{Refusal}
 use Rattle.sheet.specs.Turns.{textFrom}
-use Rattle.sheet.specs.Promise as Promise
 use Rattle.sheet.specs.Promise.{Prints, sheetOf}
 
 sheet-opens : open-heap sheetOpening ≡ some sheetHeap
@@ -69,7 +69,7 @@ module _ {s x f d c : List ℕ} {b y : Beside} {r : Opened} (z : Buffers s x f d
     opened-heap : h ≡ sheetRecord
     opened-heap = let f = ready in cc
 
-    pub opened-ready : Promise.Ready (state h s x f d c) (y .marks) (y .order) (0 ∷ []) (y .table)
+    pub opened-ready : Good.Ready (state h s x f d c) (y .marks) (y .order) (0 ∷ []) (y .table)
     opened-ready = let q = p .accepted accepted in rw opened-heap record { good = q .good; rested = q .rested; tabled = q .tabled }
 
     pub opened-prints : (input : List ℕ) {out : List ℕ} {end : ℕ} → length input ≤ 65536 → Prints (textFrom (sheetOf (layoutOf (0 ∷ [])) (state h s x f d c) []) input) out end → Prints (sheetText input) out end

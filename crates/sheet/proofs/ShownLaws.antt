@@ -10,7 +10,7 @@ use lib.ListN.{length, set, take, length-set}
 use lib.Seq.{take-suc-set}
 use Rattle.layout.specs.Layout.{Layout}
 use Rattle.map_store.specs.Store as Store
-use Rattle.slots.specs.Signed as Signed
+use Rattle.words.specs.Word as Word
 use Rattle.history.proofs.Facts.{leb-no, leb-yes}
 use Rattle.history.proofs.Lift.{Seen, seen}
 use Rattle.model.specs.Calls.{Call}
@@ -66,8 +66,8 @@ module _ {b : State} {h : Heap} {s x f d c : List ℕ} {r : Shown} where
 pub shows-same : {l : Layout} {k k′ : Call} {b a : State} {r : Shown} → k ≡ k′ → Shows l k b r a → Shows l k′ b r a
 shows-same e p = rw e at p
 
-pub signed-same : (w : ℕ) → Signed.signed64 w ≡ Store.signed64 w
-unfolding Signed.signed64 Store.signed64
+pub signed-same : (w : ℕ) → Word.signedBits w ≡ Store.signed64 w
+unfolding Word.signedBits Store.signed64
 signed-same w = refl
 
 -- ---- roots

@@ -6,7 +6,6 @@ use mathlib.Core.List.{List, [], _∷_, _++_}
 use lib.Dec.{leb}
 use lib.ListN.{length, getD, take, drop}
 use Rattle.layout.specs.Layout.{Layout}
-use Rattle.layout.specs.Sections.{Tabled}
 use Rattle.history.proofs.Lift.{Seen, seen}
 use Rattle.text.specs.Puts.{Puts}
 use Rattle.model.specs.Calls.{Call}
@@ -14,9 +13,9 @@ use Rattle.model.specs.Step.{step}
 use Rattle.model.specs.Callsheet.{Sheet, answerWord, commanded}
 use Rattle.heap.specs.declared.Heap.{Heap}
 use Rattle.heap.specs.State.{State, modelOf}
-use Rattle.heap.specs.Good.{Good, Rested}
+use Rattle.heap.specs.Good.{Good}
 use Rattle.sheet.specs.declared.Shown.{Shown}
-use Rattle.sheet.specs.Turns.{textFrom, turnOf}
+use Rattle.sheet.specs.Turns.{turnOf}
 
 -- the sheet that the heap's state and the roots hold
 abbrev pub sheetOf : Layout → State → List ℕ → Sheet
@@ -36,12 +35,6 @@ pub record Shows (l : Layout) (k : Call) (b : State) (r : Shown) (a : State) : T
 pub record Roots (before : List ℕ) (count w : ℕ) (after : List ℕ) (r : ℕ) : Type 0 where
   pub roots : take r after ≡ cond (leb 64 count) (take count before) (take count before ++ (w ∷ []))
   pub few : r ≤ 64
-
--- what the calls ask of the heap and of the memory lent with it, between commands
-pub record Ready (t : State) (marks order layout table : List ℕ) : Type 0 where
-  pub good : Good t
-  pub rested : Rested (t .heap .size) marks order
-  pub tabled : Tabled layout table
 
 -- room for 64 roots
 pub record Rooted (roots : List ℕ) (count : ℕ) : Type 0 where

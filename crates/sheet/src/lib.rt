@@ -13,9 +13,9 @@ ghost use Rattle.model.specs.Calls as Calls;
 ghost use Rattle.model.specs.Callsheet.{callOf, littleEndian, operandBytes, present-operands, sheetText};
 ghost use Rattle.heap.specs.Answers.{numberOf, readingIs};
 ghost use Rattle.heap.specs.State.{state};
-ghost use Rattle.heap.specs.Good.{Good};
+ghost use Rattle.heap.specs.Good.{Good, Ready};
 ghost use Rattle.sheet.specs.Turns.{Supplied, operandsIs, textFrom};
-ghost use Rattle.sheet.specs.Promise.{Commands, Prints, Ready, Rooted, Roots, Shows, Turns, sheetOf, shownOf};
+ghost use Rattle.sheet.specs.Promise.{Commands, Prints, Rooted, Roots, Shows, Turns, sheetOf, shownOf};
 ghost use Rattle.collector.specs.Answer.{collectionIs};
 use collector::Collection;
 use heap::Heap;
@@ -91,24 +91,6 @@ fn operands_at(input: &[u8], at: usize) -> Operands
 
 // ---- lines
 
-// Document 01's number, "Who can be turned back".
-fn number_of(q: Refusal) -> u64
-    ensures { λ r. ⌜ r ≡ numberOf q ⌝ }
-{
-    match q {
-        Refusal::ReachesNothing => 1,
-        Refusal::OtherKind => 2,
-        Refusal::Outside => 3,
-        Refusal::BadType => 4,
-        Refusal::OverBudget => 5,
-        Refusal::NoSlot => 6,
-        Refusal::NoCells => 7,
-        Refusal::TooShort => 8,
-        Refusal::Spent => 9,
-        Refusal::BadOpening => 10,
-    }
-}
-
 // A word answered, or the refusal.
 fn show(heap: Heap, answer: Reading) -> Shown
     ensures { λ r. ⌜ r ≡ shownOf heap (readingIs answer) ⌝ }
@@ -122,7 +104,7 @@ fn show(heap: Heap, answer: Reading) -> Shown
         Reading::Refused(q) => Shown {
             heap,
             word: 0,
-            refusal: number_of(q),
+            refusal: heap::number_of(q),
         },
     }
 }
@@ -140,7 +122,7 @@ fn show_collected(heap: Heap, answer: Collection) -> Shown
         Collection::Refused(q) => Shown {
             heap,
             word: 0,
-            refusal: number_of(q),
+            refusal: heap::number_of(q),
         },
     }
 }
@@ -201,7 +183,7 @@ fn call_array(
     requires { ⌜ 9 ≤ length (now operands) ⌝ }
     ensures { λ r. ⌜ ((l : Layout) → Shows l (Calls.new-array (getD (now (operands .entry)) 0 0) (signed64 (littleEndian (take 8 (drop 1 (now (operands .entry))))))) (state heap (now (slots .entry)) (now (scalars .entry)) (now (list .entry)) (now (directory .entry)) (now (cells .entry))) r (state (r .heap) (now (slots .exit)) (now (scalars .entry)) (now (list .entry)) (now (directory .exit)) (now (cells .exit)))) ⌝ }
 {
-    let n = slots::signed_of(text::read_little(operands, 1, 8));
+    let n = words::signed_of(text::read_little(operands, 1, 8));
     let t = operands[0] as u64;
     let m = allocation::new_array(heap, slots, scalars, list, directory, cells, t, n);
     let a = m.answer;

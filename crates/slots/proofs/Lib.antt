@@ -2,4 +2,3 @@ pub mod Cases
 pub mod HeaderLaws
 pub mod LookupLaws
 pub mod FreeListLaws
-pub mod SignedLaws

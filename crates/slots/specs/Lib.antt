@@ -1,4 +1,3 @@
 pub mod Header
 pub mod Lookup
 pub mod FreeList
-pub mod Signed

@@ -6,7 +6,6 @@ ghost use lib.ListN.{length, set};
 ghost use Rattle.slots.specs.Header.{headerAt, setHeader, scalarsAt, setScalars};
 ghost use Rattle.slots.specs.Lookup.{Finds, missed};
 ghost use Rattle.slots.specs.FreeList.{Listed, Takes};
-ghost use Rattle.slots.specs.Signed.{signed64, bits64};
 
 // half: 65536 + tag, the upper half of the references to the slot's object; in a slot without an
 // object the tag is the generation of its next one. kind: the object's row in the table of kinds,
@@ -196,23 +195,4 @@ pub fn take_slot(slots: &[u64], list: &[u64], fresh: u64, free: u64, flag: u64) 
         fresh: fresh,
         free: free - 1,
     }
-}
-
-// The bits of a signed number, and the signed number of 64 bits.
-pub fn bits_of(z: i64) -> u64
-    ensures { λ r. ⌜ r ≡ bits64 z ⌝ }
-{
-    let low = (z & 0x7FFF_FFFF_FFFF_FFFF) as u64;
-    if z < 0 {
-        return low + 0x8000_0000_0000_0000;
-    }
-    low
-}
-
-pub fn signed_of(w: u64) -> i64
-    ensures { λ r. ⌜ r ≡ signed64 w ⌝ }
-{
-    let high = (w / 4294967296) as i64;
-    let low = (w % 4294967296) as i64;
-    (high << 32) | low
 }

@@ -11,6 +11,7 @@ use mir.Val.{toZ, ofZ, SFits}
 use mir.Facts.{toZ-ofZ, toZ-pos}
 use borrow.Author.Tests.{ltb-true, lt-ltb, le-ltb}
 use Rattle.words.specs.Word.{signedBits, bitsOfSigned}
+use Rattle.words.specs.WordLaws.{signed-back}
 
 minus-pos : (n : ℕ) → negsuc 0 -ℤ pos n ≡ negsuc n
 minus-pos zero = refl
@@ -18,6 +19,12 @@ minus-pos (suc n) = ap (λ (k : ℕ). negsuc (suc k)) (zero-add n)
 
 minus-neg : (n : ℕ) → negsuc 0 -ℤ negsuc n ≡ pos n
 minus-neg n = let e : suc n - 1 ≡ n = omega arith in rw (le-ltb (suc n) 1 (omega arith), e)
+
+-- ---- there and back
+
+pub signed-bits : (z : ℤ) → SFits w64 z → signedBits (bitsOfSigned z) ≡ z
+signed-bits (pos n) f = signed-back n (f .sfits) .0
+signed-bits (negsuc n) f = signed-back n (f .sfits) .1
 
 -- ---- bits read signed
 

@@ -16,12 +16,12 @@ from-char-requires c κs = search needs
 number-requires : tie.Need-number-requires
 number-requires c κs = search needs
 
-tell-requires : tie.Need-tell-requires
-tell-requires c κs = search needs
+write-answer-requires : tie.Need-write-answer-requires
+write-answer-requires c κs = search needs
 
 returns : tie.Need-returns
 unfolding terms effect
-returns c = λ m. word-told m (Calls.char-word _) (number _) refl (ap (λ (n : ℕ). uncharged [] (number n)) (sym (c .before .before .from-char .ensures))) (c .before .number .ensures) (c .tell .ensures)
+returns c = λ m. word-told m (Calls.char-word _) (number _) refl (ap (λ (n : ℕ). uncharged [] (number n)) (sym (c .before .before .from-char .ensures))) (c .before .number .ensures) (c .write-answer .ensures)
 
 pub mch-char-word-spec : {M : Type 1} → statement M
-mch-char-word-spec = tie.close (tie.spec from-char-requires number-requires tell-requires returns)
+mch-char-word-spec = tie.close (tie.spec from-char-requires number-requires write-answer-requires returns)

@@ -15,11 +15,11 @@ save-requires c κs = search needs
 done-requires : tie.Need-done-requires
 done-requires c κs = search needs
 
-tell-requires : tie.Need-tell-requires
-tell-requires c κs = search needs
+write-answer-requires : tie.Need-write-answer-requires
+write-answer-requires c κs = search needs
 
 returns : tie.Need-returns
-returns c = performs (c .before .before .before .before .before .before .before .load .ensures) (c .before .before .before .save .ensures) (c .before .before .before .before .before .before .charge .ensures) (c .before .done .ensures) (c .tell .ensures)
+returns c = performs (c .before .before .before .before .before .before .before .load .ensures) (c .before .before .before .save .ensures) (c .before .before .before .before .before .before .charge .ensures) (c .before .done .ensures) (c .write-answer .ensures)
 
 pub mch-charge-spec : {M : Type 1} → statement M
-mch-charge-spec = tie.close (tie.spec load-requires charge-requires save-requires done-requires tell-requires returns)
+mch-charge-spec = tie.close (tie.spec load-requires charge-requires save-requires done-requires write-answer-requires returns)

@@ -15,8 +15,8 @@ save-requires c κs = search needs
 collected-requires : tie.Need-collected-requires
 collected-requires c κs = search needs
 
-tell-requires : tie.Need-tell-requires
-tell-requires c κs = search needs
+write-answer-requires : tie.Need-write-answer-requires
+write-answer-requires c κs = search needs
 
 same-length : tie.Need-same-length
 same-length c = search needs
@@ -37,7 +37,7 @@ same-length-6 : tie.Need-same-length-6
 same-length-6 c = search needs
 
 returns : tie.Need-returns
-returns c = (collects _ (c .before .before .before .before .before .before .before .before .before .before .before .before .before .before .before .before .before .before .before .before .before .before .before .before .before .load .ensures) (c .before .before .before .save .ensures) ((c .before .before .before .before .before .before .before .before .before .before .before .before .before .before .before .before .before .before .collect .ensures) .0) (c .before .collected .ensures) (c .tell .ensures), (c .before .before .before .before .before .before .before .before .before .before .before .before .before .before .before .before .before .before .collect .ensures) .1)
+returns c = (collects _ (c .before .before .before .before .before .before .before .before .before .before .before .before .before .before .before .before .before .before .before .before .before .before .before .before .before .load .ensures) (c .before .before .before .save .ensures) ((c .before .before .before .before .before .before .before .before .before .before .before .before .before .before .before .before .before .before .collect .ensures) .0) (c .before .collected .ensures) (c .write-answer .ensures), (c .before .before .before .before .before .before .before .before .before .before .before .before .before .before .before .before .before .before .collect .ensures) .1)
 
 pub mch-collect-spec : {M : Type 1} → statement M
-mch-collect-spec = tie.close (tie.spec load-requires collect-requires save-requires collected-requires tell-requires same-length same-length-2 same-length-3 same-length-4 same-length-5 same-length-6 returns)
+mch-collect-spec = tie.close (tie.spec load-requires collect-requires save-requires collected-requires write-answer-requires same-length same-length-2 same-length-3 same-length-4 same-length-5 same-length-6 returns)

@@ -12,11 +12,11 @@ collection-count-requires c κs = good-loaded (c .load .ensures) (c .before .bef
 number-requires : tie.Need-number-requires
 number-requires c κs = search needs
 
-tell-requires : tie.Need-tell-requires
-tell-requires c κs = search needs
+write-answer-requires : tie.Need-write-answer-requires
+write-answer-requires c κs = search needs
 
 returns : tie.Need-returns
-returns c = keeps (c .before .before .before .before .load .ensures) (c .before .before .before .collection-count .ensures) (c .before .number .ensures) (c .tell .ensures)
+returns c = keeps (c .before .before .before .before .load .ensures) (c .before .before .before .collection-count .ensures) (c .before .number .ensures) (c .write-answer .ensures)
 
 pub mch-collection-count-spec : {M : Type 1} → statement M
-mch-collection-count-spec = tie.close (tie.spec load-requires collection-count-requires number-requires tell-requires returns)
+mch-collection-count-spec = tie.close (tie.spec load-requires collection-count-requires number-requires write-answer-requires returns)

@@ -12,11 +12,11 @@ coroutine-finalized-requires c κs = good-loaded (c .load .ensures) (c .before .
 test-requires : tie.Need-test-requires
 test-requires c κs = search needs
 
-tell-requires : tie.Need-tell-requires
-tell-requires c κs = search needs
+write-answer-requires : tie.Need-write-answer-requires
+write-answer-requires c κs = search needs
 
 returns : tie.Need-returns
-returns c = keeps (c .before .before .before .before .load .ensures) (c .before .before .before .coroutine-finalized .ensures) (c .before .test .ensures) (c .tell .ensures)
+returns c = keeps (c .before .before .before .before .load .ensures) (c .before .before .before .coroutine-finalized .ensures) (c .before .test .ensures) (c .write-answer .ensures)
 
 pub mch-coroutine-finalized-spec : {M : Type 1} → statement M
-mch-coroutine-finalized-spec = tie.close (tie.spec load-requires coroutine-finalized-requires test-requires tell-requires returns)
+mch-coroutine-finalized-spec = tie.close (tie.spec load-requires coroutine-finalized-requires test-requires write-answer-requires returns)

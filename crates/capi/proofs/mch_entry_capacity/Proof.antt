@@ -12,11 +12,11 @@ entry-capacity-requires c κs = good-loaded (c .load .ensures) (c .before .befor
 reading-requires : tie.Need-reading-requires
 reading-requires c κs = search needs
 
-tell-requires : tie.Need-tell-requires
-tell-requires c κs = search needs
+write-answer-requires : tie.Need-write-answer-requires
+write-answer-requires c κs = search needs
 
 returns : tie.Need-returns
-returns c = keeps (c .before .before .before .before .load .ensures) (c .before .before .before .entry-capacity .ensures) (c .before .reading .ensures) (c .tell .ensures)
+returns c = keeps (c .before .before .before .before .load .ensures) (c .before .before .before .entry-capacity .ensures) (c .before .reading .ensures) (c .write-answer .ensures)
 
 pub mch-entry-capacity-spec : {M : Type 1} → statement M
-mch-entry-capacity-spec = tie.close (tie.spec load-requires entry-capacity-requires reading-requires tell-requires returns)
+mch-entry-capacity-spec = tie.close (tie.spec load-requires entry-capacity-requires reading-requires write-answer-requires returns)

@@ -12,11 +12,11 @@ error-word-requires c κs = good-loaded (c .load .ensures) (c .before .before .b
 reading-requires : tie.Need-reading-requires
 reading-requires c κs = search needs
 
-tell-requires : tie.Need-tell-requires
-tell-requires c κs = search needs
+write-answer-requires : tie.Need-write-answer-requires
+write-answer-requires c κs = search needs
 
 returns : tie.Need-returns
-returns c = keeps (c .before .before .before .before .load .ensures) (c .before .before .before .error-word .ensures) (c .before .reading .ensures) (c .tell .ensures)
+returns c = keeps (c .before .before .before .before .load .ensures) (c .before .before .before .error-word .ensures) (c .before .reading .ensures) (c .write-answer .ensures)
 
 pub mch-error-word-spec : {M : Type 1} → statement M
-mch-error-word-spec = tie.close (tie.spec load-requires error-word-requires reading-requires tell-requires returns)
+mch-error-word-spec = tie.close (tie.spec load-requires error-word-requires reading-requires write-answer-requires returns)

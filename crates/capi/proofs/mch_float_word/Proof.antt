@@ -21,12 +21,12 @@ from-f64-requires c κs = search needs
 number-requires : tie.Need-number-requires
 number-requires c κs = search needs
 
-tell-requires : tie.Need-tell-requires
-tell-requires c κs = search needs
+write-answer-requires : tie.Need-write-answer-requires
+write-answer-requires c κs = search needs
 
 returns : tie.Need-returns
 unfolding terms effect
-returns c = λ m. word-told m (Calls.float-word _) (number _) refl (ap (λ (n : ℕ). uncharged [] (number n)) (sym ((c .before .before .from-f64 .ensures) ∙ ap floatWord (c .before .before .before .before .float-of-bits .ensures)))) (c .before .number .ensures) (c .tell .ensures)
+returns c = λ m. word-told m (Calls.float-word _) (number _) refl (ap (λ (n : ℕ). uncharged [] (number n)) (sym ((c .before .before .from-f64 .ensures) ∙ ap floatWord (c .before .before .before .before .float-of-bits .ensures)))) (c .before .number .ensures) (c .write-answer .ensures)
 
 pub mch-float-word-spec : {M : Type 1} → statement M
-mch-float-word-spec = tie.close (tie.spec float-of-bits-requires from-f64-requires number-requires tell-requires returns)
+mch-float-word-spec = tie.close (tie.spec float-of-bits-requires from-f64-requires number-requires write-answer-requires returns)

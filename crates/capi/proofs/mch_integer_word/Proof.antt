@@ -18,12 +18,12 @@ inline-int-requires c κs = search needs
 inline-requires : tie.Need-inline-requires
 inline-requires c κs = search needs
 
-tell-requires : tie.Need-tell-requires
-tell-requires c κs = search needs
+write-answer-requires : tie.Need-write-answer-requires
+write-answer-requires c κs = search needs
 
 returns : tie.Need-returns
 unfolding terms effect
-returns c = λ m. word-told m (Calls.integer-word _) (inline _) refl (ap (λ (i : Inline). uncharged [] (inline i)) (sym (rw (toZ-ofZ (c .before .before .before .before .fits .z)) at (c .before .before .before .inline-int .ensures)))) (c .before .inline .ensures) (c .tell .ensures)
+returns c = λ m. word-told m (Calls.integer-word _) (inline _) refl (ap (λ (i : Inline). uncharged [] (inline i)) (sym (rw (toZ-ofZ (c .before .before .before .before .fits .z)) at (c .before .before .before .inline-int .ensures)))) (c .before .inline .ensures) (c .write-answer .ensures)
 
 pub mch-integer-word-spec : {M : Type 1} → statement M
-mch-integer-word-spec = tie.close (tie.spec inline-int-requires inline-requires tell-requires returns)
+mch-integer-word-spec = tie.close (tie.spec inline-int-requires inline-requires write-answer-requires returns)

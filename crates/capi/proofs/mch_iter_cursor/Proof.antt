@@ -12,11 +12,11 @@ iter-cursor-requires c κs = good-loaded (c .load .ensures) (c .before .before .
 cursor-requires : tie.Need-cursor-requires
 cursor-requires c κs = search needs
 
-tell-requires : tie.Need-tell-requires
-tell-requires c κs = search needs
+write-answer-requires : tie.Need-write-answer-requires
+write-answer-requires c κs = search needs
 
 returns : tie.Need-returns
-returns c = keeps (c .before .before .before .before .load .ensures) (c .before .before .before .iter-cursor .ensures) (c .before .cursor .ensures) (c .tell .ensures)
+returns c = keeps (c .before .before .before .before .load .ensures) (c .before .before .before .iter-cursor .ensures) (c .before .cursor .ensures) (c .write-answer .ensures)
 
 pub mch-iter-cursor-spec : {M : Type 1} → statement M
-mch-iter-cursor-spec = tie.close (tie.spec load-requires iter-cursor-requires cursor-requires tell-requires returns)
+mch-iter-cursor-spec = tie.close (tie.spec load-requires iter-cursor-requires cursor-requires write-answer-requires returns)

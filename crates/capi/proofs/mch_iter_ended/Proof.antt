@@ -12,11 +12,11 @@ iter-ended-requires c κs = good-loaded (c .load .ensures) (c .before .before .b
 test-requires : tie.Need-test-requires
 test-requires c κs = search needs
 
-tell-requires : tie.Need-tell-requires
-tell-requires c κs = search needs
+write-answer-requires : tie.Need-write-answer-requires
+write-answer-requires c κs = search needs
 
 returns : tie.Need-returns
-returns c = keeps (c .before .before .before .before .load .ensures) (c .before .before .before .iter-ended .ensures) (c .before .test .ensures) (c .tell .ensures)
+returns c = keeps (c .before .before .before .before .load .ensures) (c .before .before .before .iter-ended .ensures) (c .before .test .ensures) (c .write-answer .ensures)
 
 pub mch-iter-ended-spec : {M : Type 1} → statement M
-mch-iter-ended-spec = tie.close (tie.spec load-requires iter-ended-requires test-requires tell-requires returns)
+mch-iter-ended-spec = tie.close (tie.spec load-requires iter-ended-requires test-requires write-answer-requires returns)

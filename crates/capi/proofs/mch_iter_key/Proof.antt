@@ -12,11 +12,11 @@ iter-key-requires c κs = good-loaded (c .load .ensures) (c .before .before .bef
 perhaps-requires : tie.Need-perhaps-requires
 perhaps-requires c κs = search needs
 
-tell-requires : tie.Need-tell-requires
-tell-requires c κs = search needs
+write-answer-requires : tie.Need-write-answer-requires
+write-answer-requires c κs = search needs
 
 returns : tie.Need-returns
-returns c = keeps (c .before .before .before .before .load .ensures) (c .before .before .before .iter-key .ensures) (c .before .perhaps .ensures) (c .tell .ensures)
+returns c = keeps (c .before .before .before .before .load .ensures) (c .before .before .before .iter-key .ensures) (c .before .perhaps .ensures) (c .write-answer .ensures)
 
 pub mch-iter-key-spec : {M : Type 1} → statement M
-mch-iter-key-spec = tie.close (tie.spec load-requires iter-key-requires perhaps-requires tell-requires returns)
+mch-iter-key-spec = tie.close (tie.spec load-requires iter-key-requires perhaps-requires write-answer-requires returns)

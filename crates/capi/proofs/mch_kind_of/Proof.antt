@@ -12,11 +12,11 @@ kind-of-requires c κs = good-loaded (c .load .ensures) (c .before .before .befo
 kind-requires : tie.Need-kind-requires
 kind-requires c κs = search needs
 
-tell-requires : tie.Need-tell-requires
-tell-requires c κs = search needs
+write-answer-requires : tie.Need-write-answer-requires
+write-answer-requires c κs = search needs
 
 returns : tie.Need-returns
-returns c = keeps (c .before .before .before .before .load .ensures) (c .before .before .before .kind-of .ensures) (c .before .kind .ensures) (c .tell .ensures)
+returns c = keeps (c .before .before .before .before .load .ensures) (c .before .before .before .kind-of .ensures) (c .before .kind .ensures) (c .write-answer .ensures)
 
 pub mch-kind-of-spec : {M : Type 1} → statement M
-mch-kind-of-spec = tie.close (tie.spec load-requires kind-of-requires kind-requires tell-requires returns)
+mch-kind-of-spec = tie.close (tie.spec load-requires kind-of-requires kind-requires write-answer-requires returns)

@@ -15,14 +15,14 @@ save-requires c κs = search needs
 made-requires : tie.Need-made-requires
 made-requires c κs = search needs
 
-tell-requires : tie.Need-tell-requires
-tell-requires c κs = search needs
+write-answer-requires : tie.Need-write-answer-requires
+write-answer-requires c κs = search needs
 
 same-length : tie.Need-same-length
 same-length c = search needs
 
 returns : tie.Need-returns
-returns c = performs (c .before .before .before .before .before .before .before .before .before .before .load .ensures) (c .before .before .before .save .ensures) (c .before .before .before .before .before .before .before .before .new-cell .ensures) (c .before .made .ensures) (c .tell .ensures)
+returns c = performs (c .before .before .before .before .before .before .before .before .before .before .load .ensures) (c .before .before .before .save .ensures) (c .before .before .before .before .before .before .before .before .new-cell .ensures) (c .before .made .ensures) (c .write-answer .ensures)
 
 pub mch-new-cell-spec : {M : Type 1} → statement M
-mch-new-cell-spec = tie.close (tie.spec load-requires new-cell-requires save-requires made-requires tell-requires same-length returns)
+mch-new-cell-spec = tie.close (tie.spec load-requires new-cell-requires save-requires made-requires write-answer-requires same-length returns)

@@ -18,8 +18,8 @@ save-requires c κs = search needs
 made-requires : tie.Need-made-requires
 made-requires c κs = search needs
 
-tell-requires : tie.Need-tell-requires
-tell-requires c κs = search needs
+write-answer-requires : tie.Need-write-answer-requires
+write-answer-requires c κs = search needs
 
 same-length : tie.Need-same-length
 same-length c = search needs
@@ -34,7 +34,7 @@ same-length-4 : tie.Need-same-length-4
 same-length-4 c = search needs
 
 returns : tie.Need-returns
-returns c = performs-with (c .before .before .before .before .before .before .before .before .before .before .before .before .before .before .before .before .before .before .before .before .load .ensures) (c .before .before .before .save .ensures) (c .before .before .before .before .before .before .before .before .before .before .before .before .before .before .before .before .before .before .before .load-coroutine .ensures) (c .before .before .before .before .before .before .before .before .before .before .before .before .before .before .new-coroutine-flat .ensures) (c .before .made .ensures) (c .tell .ensures)
+returns c = performs-with (c .before .before .before .before .before .before .before .before .before .before .before .before .before .before .before .before .before .before .before .before .load .ensures) (c .before .before .before .save .ensures) (c .before .before .before .before .before .before .before .before .before .before .before .before .before .before .before .before .before .before .before .load-coroutine .ensures) (c .before .before .before .before .before .before .before .before .before .before .before .before .before .before .new-coroutine-flat .ensures) (c .before .made .ensures) (c .write-answer .ensures)
 
 pub mch-new-coroutine-spec : {M : Type 1} → statement M
-mch-new-coroutine-spec = tie.close (tie.spec load-requires load-coroutine-requires new-coroutine-flat-requires save-requires made-requires tell-requires same-length same-length-2 same-length-3 same-length-4 returns)
+mch-new-coroutine-spec = tie.close (tie.spec load-requires load-coroutine-requires new-coroutine-flat-requires save-requires made-requires write-answer-requires same-length same-length-2 same-length-3 same-length-4 returns)

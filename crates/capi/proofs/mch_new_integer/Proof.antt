@@ -16,14 +16,14 @@ save-requires c κs = search needs
 made-requires : tie.Need-made-requires
 made-requires c κs = search needs
 
-tell-requires : tie.Need-tell-requires
-tell-requires c κs = search needs
+write-answer-requires : tie.Need-write-answer-requires
+write-answer-requires c κs = search needs
 
 same-length : tie.Need-same-length
 same-length c = search needs
 
 returns : tie.Need-returns
-returns c = performs (c .before .before .before .before .before .before .before .before .before .before .load .ensures) (c .before .before .before .save .ensures) (rw (toZ-ofZ (c .before .before .before .before .before .before .before .before .before .before .before .before .before .before .before .before .before .fits .z)) at (c .before .before .before .before .before .before .before .before .new-integer .ensures)) (c .before .made .ensures) (c .tell .ensures)
+returns c = performs (c .before .before .before .before .before .before .before .before .before .before .load .ensures) (c .before .before .before .save .ensures) (rw (toZ-ofZ (c .before .before .before .before .before .before .before .before .before .before .before .before .before .before .before .before .before .fits .z)) at (c .before .before .before .before .before .before .before .before .new-integer .ensures)) (c .before .made .ensures) (c .write-answer .ensures)
 
 pub mch-new-integer-spec : {M : Type 1} → statement M
-mch-new-integer-spec = tie.close (tie.spec load-requires new-integer-requires save-requires made-requires tell-requires same-length returns)
+mch-new-integer-spec = tie.close (tie.spec load-requires new-integer-requires save-requires made-requires write-answer-requires same-length returns)

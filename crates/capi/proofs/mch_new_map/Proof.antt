@@ -15,8 +15,8 @@ save-requires c κs = search needs
 made-requires : tie.Need-made-requires
 made-requires c κs = search needs
 
-tell-requires : tie.Need-tell-requires
-tell-requires c κs = search needs
+write-answer-requires : tie.Need-write-answer-requires
+write-answer-requires c κs = search needs
 
 same-length : tie.Need-same-length
 same-length c = search needs
@@ -25,7 +25,7 @@ same-length-2 : tie.Need-same-length-2
 same-length-2 c = search needs
 
 returns : tie.Need-returns
-returns c = performs (c .before .before .before .before .before .before .before .before .before .before .before .before .before .load .ensures) (c .before .before .before .save .ensures) (c .before .before .before .before .before .before .before .before .before .before .new-map .ensures) (c .before .made .ensures) (c .tell .ensures)
+returns c = performs (c .before .before .before .before .before .before .before .before .before .before .before .before .before .load .ensures) (c .before .before .before .save .ensures) (c .before .before .before .before .before .before .before .before .before .before .new-map .ensures) (c .before .made .ensures) (c .write-answer .ensures)
 
 pub mch-new-map-spec : {M : Type 1} → statement M
-mch-new-map-spec = tie.close (tie.spec load-requires new-map-requires save-requires made-requires tell-requires same-length same-length-2 returns)
+mch-new-map-spec = tie.close (tie.spec load-requires new-map-requires save-requires made-requires write-answer-requires same-length same-length-2 returns)

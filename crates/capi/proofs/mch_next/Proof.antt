@@ -18,11 +18,11 @@ moved-requires c κs = search needs
 save-cursor-requires : tie.Need-save-cursor-requires
 save-cursor-requires c κs = search needs
 
-tell-requires : tie.Need-tell-requires
-tell-requires c κs = search needs
+write-answer-requires : tie.Need-write-answer-requires
+write-answer-requires c κs = search needs
 
 returns : tie.Need-returns
-returns c = steps _ _ (c .before .before .before .before .before .before .before .before .load .ensures) (c .before .before .before .before .before .before .load-cursor .ensures) (c .before .before .before .before .before .step-cursor .ensures) (c .before .before .before .before .moved .ensures) (c .before .before .save-cursor .ensures) (c .tell .ensures)
+returns c = steps _ _ (c .before .before .before .before .before .before .before .before .load .ensures) (c .before .before .before .before .before .before .load-cursor .ensures) (c .before .before .before .before .before .step-cursor .ensures) (c .before .before .before .before .moved .ensures) (c .before .before .save-cursor .ensures) (c .write-answer .ensures)
 
 pub mch-next-spec : {M : Type 1} → statement M
-mch-next-spec = tie.close (tie.spec load-requires load-cursor-requires step-cursor-requires moved-requires save-cursor-requires tell-requires returns)
+mch-next-spec = tie.close (tie.spec load-requires load-cursor-requires step-cursor-requires moved-requires save-cursor-requires write-answer-requires returns)

@@ -12,11 +12,11 @@ next-key-requires c κs = good-loaded (c .load .ensures) (c .before .before .bef
 next-int-requires : tie.Need-next-int-requires
 next-int-requires c κs = search needs
 
-tell-requires : tie.Need-tell-requires
-tell-requires c κs = search needs
+write-answer-requires : tie.Need-write-answer-requires
+write-answer-requires c κs = search needs
 
 returns : tie.Need-returns
-returns c = keeps (c .before .before .before .before .load .ensures) (c .before .before .before .next-key .ensures) (c .before .next-int .ensures) (c .tell .ensures)
+returns c = keeps (c .before .before .before .before .load .ensures) (c .before .before .before .next-key .ensures) (c .before .next-int .ensures) (c .write-answer .ensures)
 
 pub mch-next-key-spec : {M : Type 1} → statement M
-mch-next-key-spec = tie.close (tie.spec load-requires next-key-requires next-int-requires tell-requires returns)
+mch-next-key-spec = tie.close (tie.spec load-requires next-key-requires next-int-requires write-answer-requires returns)

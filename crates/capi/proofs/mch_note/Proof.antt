@@ -13,8 +13,8 @@ note-requires c κs = good-loaded (c .before .before .load .ensures) (c .before 
 done-requires : tie.Need-done-requires
 done-requires c κs = search needs
 
-tell-requires : tie.Need-tell-requires
-tell-requires c κs = search needs
+write-answer-requires : tie.Need-write-answer-requires
+write-answer-requires c κs = search needs
 
 same-length : tie.Need-same-length
 same-length c = search needs
@@ -23,7 +23,7 @@ same-length-2 : tie.Need-same-length-2
 same-length-2 c = search needs
 
 returns : tie.Need-returns
-returns c = keeps (c .before .before .before .before .before .before .before .before .before .before .load .ensures) (rw (toZ-ofZ (c .before .before .before .before .before .before .before .before .before .before .before .before .before .before .before .before .fits .k)) at (c .before .before .before .before .before .before .before .note .ensures)) (c .before .done .ensures) (c .tell .ensures)
+returns c = keeps (c .before .before .before .before .before .before .before .before .before .before .load .ensures) (rw (toZ-ofZ (c .before .before .before .before .before .before .before .before .before .before .before .before .before .before .before .before .fits .k)) at (c .before .before .before .before .before .before .before .note .ensures)) (c .before .done .ensures) (c .write-answer .ensures)
 
 pub mch-note-spec : {M : Type 1} → statement M
-mch-note-spec = tie.close (tie.spec load-requires note-requires done-requires tell-requires same-length same-length-2 returns)
+mch-note-spec = tie.close (tie.spec load-requires note-requires done-requires write-answer-requires same-length same-length-2 returns)

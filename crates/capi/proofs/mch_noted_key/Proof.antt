@@ -12,11 +12,11 @@ noted-key-requires c κs = good-loaded (c .load .ensures) (c .before .before .be
 noted-requires : tie.Need-noted-requires
 noted-requires c κs = search needs
 
-tell-requires : tie.Need-tell-requires
-tell-requires c κs = search needs
+write-answer-requires : tie.Need-write-answer-requires
+write-answer-requires c κs = search needs
 
 returns : tie.Need-returns
-returns c = keeps (c .before .before .before .before .load .ensures) (c .before .before .before .noted-key .ensures) (c .before .noted .ensures) (c .tell .ensures)
+returns c = keeps (c .before .before .before .before .load .ensures) (c .before .before .before .noted-key .ensures) (c .before .noted .ensures) (c .write-answer .ensures)
 
 pub mch-noted-key-spec : {M : Type 1} → statement M
-mch-noted-key-spec = tie.close (tie.spec load-requires noted-key-requires noted-requires tell-requires returns)
+mch-noted-key-spec = tie.close (tie.spec load-requires noted-key-requires noted-requires write-answer-requires returns)

@@ -1,16 +1,10 @@
+-- `capi::mch_open` meets its contract. Assumes nothing.
 use borrow.Author.Needs.{needs}
-use Rattle.capi.proofs.Laws.{opens-words}
 use Rattle.capi.proofs.mch_open.Statement.{statement}
 use Rattle.capi.proofs.mch_open.Tie as tie
 
-load-weights-requires : tie.Need-load-weights-requires
-load-weights-requires c κs = search needs
-
 open-requires : tie.Need-open-requires
 open-requires c κs = search needs
-
-settle-requires : tie.Need-settle-requires
-settle-requires c κs = search needs
 
 same-length : tie.Need-same-length
 same-length c = search needs
@@ -22,7 +16,7 @@ same-length-3 : tie.Need-same-length-3
 same-length-3 c = search needs
 
 returns : tie.Need-returns
-returns c = opens-words _ (rw (c .before .before .before .before .before .before .before .before .before .before .before .before .load-weights .ensures) at (c .before .before .before .before .before .before .before .before .«open» .ensures)) (c .settle .ensures)
+returns c = c .before .before .before .before .before .before .«open» .ensures
 
 pub mch-open-spec : {M : Type 1} → statement M
-mch-open-spec = tie.close (tie.spec load-weights-requires open-requires settle-requires same-length same-length-2 same-length-3 returns)
+mch-open-spec = tie.close (tie.spec open-requires same-length same-length-2 same-length-3 returns)

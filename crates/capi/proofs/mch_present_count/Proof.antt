@@ -12,11 +12,11 @@ present-count-requires c κs = good-loaded (c .load .ensures) (c .before .before
 number-requires : tie.Need-number-requires
 number-requires c κs = search needs
 
-tell-requires : tie.Need-tell-requires
-tell-requires c κs = search needs
+write-answer-requires : tie.Need-write-answer-requires
+write-answer-requires c κs = search needs
 
 returns : tie.Need-returns
-returns c = keeps (c .before .before .before .before .load .ensures) (c .before .before .before .present-count .ensures) (c .before .number .ensures) (c .tell .ensures)
+returns c = keeps (c .before .before .before .before .load .ensures) (c .before .before .before .present-count .ensures) (c .before .number .ensures) (c .write-answer .ensures)
 
 pub mch-present-count-spec : {M : Type 1} → statement M
-mch-present-count-spec = tie.close (tie.spec load-requires present-count-requires number-requires tell-requires returns)
+mch-present-count-spec = tie.close (tie.spec load-requires present-count-requires number-requires write-answer-requires returns)

@@ -15,8 +15,8 @@ save-requires c κs = search needs
 done-requires : tie.Need-done-requires
 done-requires c κs = search needs
 
-tell-requires : tie.Need-tell-requires
-tell-requires c κs = search needs
+write-answer-requires : tie.Need-write-answer-requires
+write-answer-requires c κs = search needs
 
 same-length : tie.Need-same-length
 same-length c = search needs
@@ -28,7 +28,7 @@ same-length-3 : tie.Need-same-length-3
 same-length-3 c = search needs
 
 returns : tie.Need-returns
-returns c = performs (c .before .before .before .before .before .before .before .before .before .before .before .before .before .before .before .before .load .ensures) (c .before .before .before .save .ensures) (c .before .before .before .before .before .before .before .before .before .before .before .before .push .ensures) (c .before .done .ensures) (c .tell .ensures)
+returns c = performs (c .before .before .before .before .before .before .before .before .before .before .before .before .before .before .before .before .load .ensures) (c .before .before .before .save .ensures) (c .before .before .before .before .before .before .before .before .before .before .before .before .push .ensures) (c .before .done .ensures) (c .write-answer .ensures)
 
 pub mch-push-spec : {M : Type 1} → statement M
-mch-push-spec = tie.close (tie.spec load-requires push-requires save-requires done-requires tell-requires same-length same-length-2 same-length-3 returns)
+mch-push-spec = tie.close (tie.spec load-requires push-requires save-requires done-requires write-answer-requires same-length same-length-2 same-length-3 returns)

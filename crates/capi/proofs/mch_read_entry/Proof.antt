@@ -12,11 +12,11 @@ read-entry-requires c κs = good-loaded (c .load .ensures) (c .before .before .b
 entry-requires : tie.Need-entry-requires
 entry-requires c κs = search needs
 
-tell-requires : tie.Need-tell-requires
-tell-requires c κs = search needs
+write-answer-requires : tie.Need-write-answer-requires
+write-answer-requires c κs = search needs
 
 returns : tie.Need-returns
-returns c = keeps (c .before .before .before .before .load .ensures) (c .before .before .before .read-entry .ensures) (c .before .entry .ensures) (c .tell .ensures)
+returns c = keeps (c .before .before .before .before .load .ensures) (c .before .before .before .read-entry .ensures) (c .before .entry .ensures) (c .write-answer .ensures)
 
 pub mch-read-entry-spec : {M : Type 1} → statement M
-mch-read-entry-spec = tie.close (tie.spec load-requires read-entry-requires entry-requires tell-requires returns)
+mch-read-entry-spec = tie.close (tie.spec load-requires read-entry-requires entry-requires write-answer-requires returns)

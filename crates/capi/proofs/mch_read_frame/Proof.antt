@@ -12,11 +12,11 @@ read-frame-requires c κs = good-loaded (c .load .ensures) (c .before .before .b
 frame-requires : tie.Need-frame-requires
 frame-requires c κs = search needs
 
-tell-requires : tie.Need-tell-requires
-tell-requires c κs = search needs
+write-answer-requires : tie.Need-write-answer-requires
+write-answer-requires c κs = search needs
 
 returns : tie.Need-returns
-returns c = keeps (c .before .before .before .before .load .ensures) (c .before .before .before .read-frame .ensures) (c .before .frame .ensures) (c .tell .ensures)
+returns c = keeps (c .before .before .before .before .load .ensures) (c .before .before .before .read-frame .ensures) (c .before .frame .ensures) (c .write-answer .ensures)
 
 pub mch-read-frame-spec : {M : Type 1} → statement M
-mch-read-frame-spec = tie.close (tie.spec load-requires read-frame-requires frame-requires tell-requires returns)
+mch-read-frame-spec = tie.close (tie.spec load-requires read-frame-requires frame-requires write-answer-requires returns)

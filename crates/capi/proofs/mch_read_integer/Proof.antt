@@ -12,11 +12,11 @@ read-integer-requires c κs = good-loaded (c .load .ensures) (c .before .before 
 signed-requires : tie.Need-signed-requires
 signed-requires c κs = search needs
 
-tell-requires : tie.Need-tell-requires
-tell-requires c κs = search needs
+write-answer-requires : tie.Need-write-answer-requires
+write-answer-requires c κs = search needs
 
 returns : tie.Need-returns
-returns c = keeps (c .before .before .before .before .load .ensures) (c .before .before .before .read-integer .ensures) (c .before .signed .ensures) (c .tell .ensures)
+returns c = keeps (c .before .before .before .before .load .ensures) (c .before .before .before .read-integer .ensures) (c .before .signed .ensures) (c .write-answer .ensures)
 
 pub mch-read-integer-spec : {M : Type 1} → statement M
-mch-read-integer-spec = tie.close (tie.spec load-requires read-integer-requires signed-requires tell-requires returns)
+mch-read-integer-spec = tie.close (tie.spec load-requires read-integer-requires signed-requires write-answer-requires returns)

@@ -12,11 +12,11 @@ read-item-requires c κs = good-loaded (c .load .ensures) (c .before .before .be
 reading-requires : tie.Need-reading-requires
 reading-requires c κs = search needs
 
-tell-requires : tie.Need-tell-requires
-tell-requires c κs = search needs
+write-answer-requires : tie.Need-write-answer-requires
+write-answer-requires c κs = search needs
 
 returns : tie.Need-returns
-returns c = keeps (c .before .before .before .before .load .ensures) (c .before .before .before .read-item .ensures) (c .before .reading .ensures) (c .tell .ensures)
+returns c = keeps (c .before .before .before .before .load .ensures) (c .before .before .before .read-item .ensures) (c .before .reading .ensures) (c .write-answer .ensures)
 
 pub mch-read-item-spec : {M : Type 1} → statement M
-mch-read-item-spec = tie.close (tie.spec load-requires read-item-requires reading-requires tell-requires returns)
+mch-read-item-spec = tie.close (tie.spec load-requires read-item-requires reading-requires write-answer-requires returns)

@@ -17,12 +17,12 @@ decode-requires c κs = search needs
 raw-requires : tie.Need-raw-requires
 raw-requires c κs = search needs
 
-tell-requires : tie.Need-tell-requires
-tell-requires c κs = search needs
+write-answer-requires : tie.Need-write-answer-requires
+write-answer-requires c κs = search needs
 
 returns : tie.Need-returns
 unfolding terms effect
-returns c = λ m. word-told m (Calls.read-word _) (raw _) refl (ap (λ (x : Raw). uncharged [] (raw x)) (sym (c .before .before .before .decode .ensures))) (c .before .raw .ensures) (c .tell .ensures)
+returns c = λ m. word-told m (Calls.read-word _) (raw _) refl (ap (λ (x : Raw). uncharged [] (raw x)) (sym (c .before .before .before .decode .ensures))) (c .before .raw .ensures) (c .write-answer .ensures)
 
 pub mch-read-word-spec : {M : Type 1} → statement M
-mch-read-word-spec = tie.close (tie.spec decode-requires raw-requires tell-requires returns)
+mch-read-word-spec = tie.close (tie.spec decode-requires raw-requires write-answer-requires returns)

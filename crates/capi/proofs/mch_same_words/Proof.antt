@@ -17,12 +17,12 @@ same-requires c κs = search needs
 flag-requires : tie.Need-flag-requires
 flag-requires c κs = search needs
 
-tell-requires : tie.Need-tell-requires
-tell-requires c κs = search needs
+write-answer-requires : tie.Need-write-answer-requires
+write-answer-requires c κs = search needs
 
 returns : tie.Need-returns
 unfolding terms effect
-returns c = λ m. word-told m (Calls.same-words _ _) (truth _) refl (ap (λ (b : Bool). uncharged [] (truth b)) (sym (c .before .before .same .ensures))) (c .before .flag .ensures) (c .tell .ensures)
+returns c = λ m. word-told m (Calls.same-words _ _) (truth _) refl (ap (λ (b : Bool). uncharged [] (truth b)) (sym (c .before .before .same .ensures))) (c .before .flag .ensures) (c .write-answer .ensures)
 
 pub mch-same-words-spec : {M : Type 1} → statement M
-mch-same-words-spec = tie.close (tie.spec same-requires flag-requires tell-requires returns)
+mch-same-words-spec = tie.close (tie.spec same-requires flag-requires write-answer-requires returns)

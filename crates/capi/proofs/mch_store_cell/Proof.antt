@@ -12,14 +12,14 @@ store-cell-requires c κs = good-loaded (c .before .load .ensures) (c .before .b
 done-requires : tie.Need-done-requires
 done-requires c κs = search needs
 
-tell-requires : tie.Need-tell-requires
-tell-requires c κs = search needs
+write-answer-requires : tie.Need-write-answer-requires
+write-answer-requires c κs = search needs
 
 same-length : tie.Need-same-length
 same-length c = search needs
 
 returns : tie.Need-returns
-returns c = keeps (c .before .before .before .before .before .before .before .load .ensures) (c .before .before .before .before .before .store-cell .ensures) (c .before .done .ensures) (c .tell .ensures)
+returns c = keeps (c .before .before .before .before .before .before .before .load .ensures) (c .before .before .before .before .before .store-cell .ensures) (c .before .done .ensures) (c .write-answer .ensures)
 
 pub mch-store-cell-spec : {M : Type 1} → statement M
-mch-store-cell-spec = tie.close (tie.spec load-requires store-cell-requires done-requires tell-requires same-length returns)
+mch-store-cell-spec = tie.close (tie.spec load-requires store-cell-requires done-requires write-answer-requires same-length returns)

@@ -12,11 +12,11 @@ used-bytes-requires c κs = good-loaded (c .load .ensures) (c .before .before .b
 number-requires : tie.Need-number-requires
 number-requires c κs = search needs
 
-tell-requires : tie.Need-tell-requires
-tell-requires c κs = search needs
+write-answer-requires : tie.Need-write-answer-requires
+write-answer-requires c κs = search needs
 
 returns : tie.Need-returns
-returns c = keeps (c .before .before .before .before .load .ensures) (c .before .before .before .used-bytes .ensures) (c .before .number .ensures) (c .tell .ensures)
+returns c = keeps (c .before .before .before .before .load .ensures) (c .before .before .before .used-bytes .ensures) (c .before .number .ensures) (c .write-answer .ensures)
 
 pub mch-used-bytes-spec : {M : Type 1} → statement M
-mch-used-bytes-spec = tie.close (tie.spec load-requires used-bytes-requires number-requires tell-requires returns)
+mch-used-bytes-spec = tie.close (tie.spec load-requires used-bytes-requires number-requires write-answer-requires returns)

@@ -12,11 +12,11 @@ wants-gc-requires c κs = good-loaded (c .load .ensures) (c .before .before .bef
 flag-requires : tie.Need-flag-requires
 flag-requires c κs = search needs
 
-tell-requires : tie.Need-tell-requires
-tell-requires c κs = search needs
+write-answer-requires : tie.Need-write-answer-requires
+write-answer-requires c κs = search needs
 
 returns : tie.Need-returns
-returns c = keeps (c .before .before .before .before .load .ensures) (c .before .before .before .wants-gc .ensures) (c .before .flag .ensures) (c .tell .ensures)
+returns c = keeps (c .before .before .before .before .load .ensures) (c .before .before .before .wants-gc .ensures) (c .before .flag .ensures) (c .write-answer .ensures)
 
 pub mch-wants-gc-spec : {M : Type 1} → statement M
-mch-wants-gc-spec = tie.close (tie.spec load-requires wants-gc-requires flag-requires tell-requires returns)
+mch-wants-gc-spec = tie.close (tie.spec load-requires wants-gc-requires flag-requires write-answer-requires returns)

@@ -4,7 +4,7 @@ use mir.Syntax.{w64}
 use mir.Val.{SFits}
 use mir.Facts.{toZ-ofZ}
 use mathlib.Core.Path.{_∙_, ap}
-use Rattle.slots.specs.Signed.{bits64}
+use Rattle.words.specs.Word.{bitsOfSigned}
 use native.Mathlib.Omega.{arith}
 use borrow.Author.Needs.{needs}
 use Rattle.collections.proofs.write_map.Statement.{statement}
@@ -41,7 +41,7 @@ same-length-2 : tie.Need-same-length-2
 same-length-2 c = search needs
 
 returns : tie.Need-returns
-returns c = let f : SFits w64 ((c .before .before .before .before .before .before .before .before .before .before .before .before .before .before .before .before .before .before .before .args .s .noted)) = record { sfits = ((c .before .before .before .before .before .before .struct-told .given)) .0 .1 } in map-written ((c .before .before .before .before .before .before .before .before .before .before .before .before .before .before .before .before .before .before .before .pre) .1) ((c .before .before .before .before .before .before .before .before .before .before .before .before .before .before .before .before .before .before .before .pre) .2) (c .before .before .before .before .before .before .before .before .before .before .before .before .before .before .before .read-header .ensures) (c .before .before .before .before .before .before .before .before .before .before .before .before .before .read-scalars .ensures) (c .before .before .before .before .before .before .before .before .flag .ensures) (c .before .before .before .before .before .before .before .flag2 .ensures) ((c .before .before .before .before .before .bits-of .ensures) ∙ ap bits64 (toZ-ofZ f)) f (omega arith) (c .before .before .before .before .before .before .before .before .before .before .before .write-header .ensures) (c .before .before .write-scalars .ensures)
+returns c = let f : SFits w64 ((c .before .before .before .before .before .before .before .before .before .before .before .before .before .before .before .before .before .before .before .args .s .noted)) = record { sfits = ((c .before .before .before .before .before .before .struct-told .given)) .0 .1 } in map-written ((c .before .before .before .before .before .before .before .before .before .before .before .before .before .before .before .before .before .before .before .pre) .1) ((c .before .before .before .before .before .before .before .before .before .before .before .before .before .before .before .before .before .before .before .pre) .2) (c .before .before .before .before .before .before .before .before .before .before .before .before .before .before .before .read-header .ensures) (c .before .before .before .before .before .before .before .before .before .before .before .before .before .read-scalars .ensures) (c .before .before .before .before .before .before .before .before .flag .ensures) (c .before .before .before .before .before .before .before .flag2 .ensures) ((c .before .before .before .before .before .bits-of .ensures) ∙ ap bitsOfSigned (toZ-ofZ f)) f (omega arith) (c .before .before .before .before .before .before .before .before .before .before .before .write-header .ensures) (c .before .before .write-scalars .ensures)
 
 pub write-map-spec : {M : Type 1} → statement M
 write-map-spec =

@@ -1,5 +1,5 @@
 use Rattle.layout.specs.Sections.{layoutOf}
-use Rattle.finalizing.proofs.Keeping.{scanned-tracked}
+use Rattle.finalizing.proofs.Keeping.{scanned-room}
 use Rattle.collector.proofs.Ends.{kept-done, kept-short, listed-fits, listed-length, listed-slots, finalized-sweepable, collects}
 use borrow.Author.Needs.{needs}
 use Rattle.collector.proofs.collect_slots.Statement.{statement}
@@ -65,7 +65,7 @@ sweep-requires c κs = finalized-sweepable _ ((c .before .before .before .before
 
 -- src/lib.rt:159:5
 unmark-requires : tie.Need-unmark-requires
-unmark-requires c κs = scanned-tracked ((c .before .before .before .before .before .before .before .before .before .before .before .before .before .before .before .before .before .before .before .before .before .before .before .before .before .before .before .before .before .before .before .before .before .before .before .before .before .before .before .before .before .pre) .1 .1 .0) (kept-done _ _ _ _ _ _ _ _ _ _ (c .before .before .before .before .before .before .before .before .before .before .before .before .before .before .before .before .before .before .before .before .before .before .before .before .before .mark-kept .ensures) ((c .before .before .before .before .before .before .before .before .before .before .before .before .before .before .before .before .before .kept .given) .1) .scanned)
+unmark-requires c κs = scanned-room ((c .before .before .before .before .before .before .before .before .before .before .before .before .before .before .before .before .before .before .before .before .before .before .before .before .before .before .before .before .before .before .before .before .before .before .before .before .before .before .before .before .before .pre) .1 .1 .0) (kept-done _ _ _ _ _ _ _ _ _ _ (c .before .before .before .before .before .before .before .before .before .before .before .before .before .before .before .before .before .before .before .before .before .before .before .before .before .mark-kept .ensures) ((c .before .before .before .before .before .before .before .before .before .before .before .before .before .before .before .before .before .kept .given) .1) .scanned)
 
 -- src/lib.rt:142:1
 same-length-6 : tie.Need-same-length-6

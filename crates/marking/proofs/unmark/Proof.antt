@@ -1,86 +1,33 @@
-use borrow.Author.Needs.{needs}
+-- `marking::unmark` meets its contract. Assumes nothing.
+use mathlib.Core.Path.{_≡_, _∙_}
+use mathlib.Core.List.{List, append-nil}
+use Prim.Native.Nat.{ℕ, _≤_}
 use native.Mathlib.Omega.{arith}
-use Prim.Native.Nat.{ℕ, _-_}
-use Rattle.marking.proofs.Undoing.{Undoing, undoing-start, undoing-slot, undoing-step, undoing-end}
+use lib.ListN.{length, replicate, drop-of-length-le}
+use borrow.Author.Needs.{needs}
+use Rattle.heap.specs.Opens.{cleared}
 use Rattle.marking.proofs.unmark.Statement.{statement}
 use Rattle.marking.proofs.unmark.Tie as tie
-use Rattle.marking.proofs.unmark.Reads as reads
-use Rattle.marking.proofs.unmark.Lts as lts
 
-abbrev Inv-loop : tie.InvT-loop
-Inv-loop marks₀ order₀ marked i₀ marks order i = Undoing marks₀ order₀ marked marks order i
+all-cleared : (m : List ℕ) → cleared m (length m) ≡ replicate (length m) 0
+all-cleared m =
+    let all : length m ≤ length m = omega arith in
+    rw (drop-of-length-le m all) (append-nil (replicate (length m) 0))
 
-abbrev μ-loop : tie.MeasureT-loop
-μ-loop marks₀ order₀ marked i₀ marks order i = marked - i
+clear-marks-requires : tie.Need-clear-marks-requires
+clear-marks-requires c κs = search needs
 
--- src/lib.rt:661:5
-loop-holds : tie.Need-loop-holds Inv-loop μ-loop
-loop-holds c = undoing-start (c .pre)
+clear-order-requires : tie.Need-clear-order-requires
+clear-order-requires c κs = search needs
 
--- src/lib.rt:662:20
-mul-slot : tie.Need-mul-slot Inv-loop μ-loop
-mul-slot c = omega (arith, (c .loop-test .taken), (c .before .before .pre .room))
+same-length : tie.Need-same-length
+same-length c = search needs
 
--- src/lib.rt:662:20
-slice-read-slot : tie.Need-slice-read-slot Inv-loop μ-loop
-slice-read-slot c = omega (arith, (c .before .loop-test .taken), (c .before .before .before .pre .room), (c .before .before .loop .inv .order-length))
+same-length-2 : tie.Need-same-length-2
+same-length-2 c = search needs
 
--- src/lib.rt:662:20
-cast-slot : tie.Need-cast-slot Inv-loop μ-loop
-cast-slot c = omega (arith, (c .slice-known .given) (c .before .before .loop .i))
-
--- src/lib.rt:663:9
-slice-write-marks : tie.Need-slice-write-marks Inv-loop μ-loop
-slice-write-marks c = undoing-slot (c .before .before .before .pre) (c .before .before .loop .inv) (c .before .loop-test .taken)
-
--- src/lib.rt:664:9
-mul-order : tie.Need-mul-order Inv-loop μ-loop
-mul-order c = omega (arith, (c .before .loop-test .taken), (c .before .before .before .pre .room))
-
--- src/lib.rt:664:9
-slice-write-order : tie.Need-slice-write-order Inv-loop μ-loop
-slice-write-order c = omega (arith, (c .before .loop-test .taken), (c .before .before .before .pre .room), (c .before .before .loop .inv .order-length))
-
--- src/lib.rt:665:9
-add-i : tie.Need-add-i Inv-loop μ-loop
-add-i c = omega (arith, (c .before .loop-test .taken), (c .before .before .before .pre .room))
-
--- src/lib.rt:661:5
-loop-less : tie.Need-loop-less Inv-loop μ-loop
-loop-less c = omega (arith, (c .before .loop-test .taken))
-
--- src/lib.rt:661:5
-loop-again : tie.Need-loop-again Inv-loop μ-loop
-loop-again c = undoing-step (c .before .before .before .pre) (c .before .before .loop .inv) (c .before .loop-test .taken)
-
--- src/lib.rt:656:1
-same-length : tie.Need-same-length Inv-loop μ-loop
-same-length c = omega (arith, (c .before .loop .inv .marks-length))
-
--- src/lib.rt:656:1
-same-length-2 : tie.Need-same-length-2 Inv-loop μ-loop
-same-length-2 c = omega (arith, (c .before .loop .inv .order-length))
-
--- src/lib.rt:656:1
-returns : tie.Need-returns Inv-loop μ-loop
-returns c = undoing-end (c .before .before .pre) (c .before .loop .inv) (c .loop-test .left)
+returns : tie.Need-returns
+returns c = record { marks = (c .before .before .before .before .before .before .clear-marks .ensures) ∙ all-cleared (c .before .before .before .before .before .before .before .before .before .before .args .marks .now); order = c .before .before .clear-order .ensures }
 
 pub unmark-spec : {M : Type 1} → statement M
-unmark-spec =
-    tie.close
-    (tie.spec
-    Inv-loop
-    μ-loop
-    loop-holds
-    mul-slot
-    slice-read-slot
-    cast-slot
-    slice-write-marks
-    mul-order
-    slice-write-order
-    add-i
-    loop-less
-    loop-again
-    same-length
-    same-length-2
-    returns)
+unmark-spec = tie.close (tie.spec clear-marks-requires clear-order-requires same-length same-length-2 returns)

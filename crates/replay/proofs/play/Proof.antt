@@ -4,13 +4,13 @@ use mathlib.Core.Path.{_≡_, refl, sym, _∙_}
 use Prim.Native.Nat.{_-_}
 use lib.ListN.{length}
 use lib.Seq.{length-take-le}
-use Rattle.replaying.specs.Turns.{Sits}
+use Rattle.replaying.specs.Turns.{SessionReady}
 use Rattle.replay.proofs.play.Statement.{statement}
 use Rattle.replay.proofs.play.Tie as tie
 
 abbrev Inv-loop : tie.InvT-loop
 Inv-loop slots₀ scalars₀ list₀ directory₀ cells₀ marks₀ order₀ table₀ roots₀ input words₀ bytes₀ places₀ out₀ p₀ slots scalars list directory cells marks order table roots words bytes places out p =
-    Sits input slots scalars list directory cells marks order table p
+    SessionReady input slots scalars list directory cells marks order table p
     × (length slots ≡ length slots₀)
     × (length scalars ≡ length scalars₀)
     × (length list ≡ length list₀)

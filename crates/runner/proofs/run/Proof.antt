@@ -4,7 +4,7 @@ use mathlib.Core.Path.{refl, _∙_}
 use lib.ListN.{length}
 use Rattle.layout.specs.Sections.{layoutOf}
 use Rattle.heap.specs.State.{state}
-use Rattle.commands.specs.Lists.{Ready}
+use Rattle.heap.specs.Good.{Ready}
 use Rattle.runner.proofs.RunLaws.{Kept, Running, running-counted, running-end, running-start, running-turn}
 use Rattle.runner.proofs.run.Statement.{statement}
 use Rattle.runner.proofs.run.Tie as tie

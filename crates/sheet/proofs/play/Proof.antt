@@ -6,8 +6,9 @@ use borrow.Author.Needs.{needs}
 use lib.ListN.{length, take}
 use Rattle.layout.specs.Sections.{layoutOf}
 use Rattle.heap.specs.State.{state}
+use Rattle.heap.specs.Good.{Ready}
 use Rattle.sheet.specs.Turns.{textFrom}
-use Rattle.sheet.specs.Promise.{Ready, Rooted, sheetOf}
+use Rattle.sheet.specs.Promise.{Rooted, sheetOf}
 use Rattle.sheet.proofs.PlayLaws.{Kept, Playing, playing-end, playing-room, playing-start, playing-step}
 use Rattle.sheet.proofs.play.Statement.{statement}
 use Rattle.sheet.proofs.play.Tie as tie

@@ -1,7 +1,8 @@
+-- `heap::number_of` meets its contract. Assumes nothing.
 use Rattle.heap.specs.Answers.{numberOf}
 use borrow.Author.Needs.{needs}
-use Rattle.sheet.proofs.number_of.Statement.{statement}
-use Rattle.sheet.proofs.number_of.Tie as tie
+use Rattle.heap.proofs.number_of.Statement.{statement}
+use Rattle.heap.proofs.number_of.Tie as tie
 
 enum-told : tie.Need-enum-told
 enum-told c = search needs

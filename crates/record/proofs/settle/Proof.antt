@@ -1,8 +1,9 @@
+-- `record::settle` meets its contract. Assumes nothing.
 use borrow.Author.Needs.{needs}
 use mathlib.Core.Path.{refl}
-use Rattle.capi.specs.Promise.{Settles}
-use Rattle.capi.proofs.settle.Statement.{statement}
-use Rattle.capi.proofs.settle.Tie as tie
+use Rattle.record.specs.Record.{Settles}
+use Rattle.record.proofs.settle.Statement.{statement}
+use Rattle.record.proofs.settle.Tie as tie
 
 enum-known-opened : tie.Need-enum-known-opened
 enum-known-opened c = search needs
