@@ -38,6 +38,88 @@ fn type_of(t: u64) -> ValType {
     }
 }
 
+/// One call each: inlined in the loops, or, where the library is called through its C interface, a call of its own on this side too.
+macro_rules! each {
+    ($(fn $name:ident($($a:ident: $t:ty),*) $(-> $r:ty)? $body:block)*) => {
+        $(#[cfg_attr(through_capi, inline(never))]
+        #[cfg_attr(not(through_capi), inline(always))]
+        fn $name($($a: $t),*) $(-> $r)? $body)*
+    };
+}
+
+each! {
+    fn read_box(heap: &Heap, w: u64) -> u64 {
+        heap.box_value(w).unwrap_or(0)
+    }
+
+    fn store_box(heap: &mut Heap, w: u64, v: u64) {
+        heap.set_box(w, v);
+    }
+
+    fn read_item(heap: &Heap, w: u64, p: u64) -> u64 {
+        coll::array_get(heap, w, p as i64).unwrap_or(0)
+    }
+
+    fn store_item(heap: &mut Heap, w: u64, p: u64, v: u64) {
+        let _ = coll::array_set_raw(heap, w, p as usize, v);
+    }
+
+    fn new_box(heap: &mut Heap, w: u64) -> u64 {
+        heap.alloc_box(w).unwrap_or(0)
+    }
+
+    fn new_array(heap: &mut Heap, t: u64, size: i64) -> u64 {
+        coll::new_array(heap, type_of(t), size).unwrap_or(0)
+    }
+
+    fn new_map(heap: &mut Heap) -> u64 {
+        coll::new_map(heap, ValType::I64, ValType::I64).unwrap_or(0)
+    }
+
+    fn new_iter(heap: &mut Heap, source: u64) -> u64 {
+        coll::new_iter(heap, source, false).and_then(Result::ok).unwrap_or(0)
+    }
+
+    fn push(heap: &mut Heap, w: u64, v: u64) {
+        let _ = coll::array_push(heap, w, v);
+    }
+
+    fn pop(heap: &mut Heap, w: u64) -> u64 {
+        coll::array_pop(heap, w).unwrap_or(0)
+    }
+
+    fn put(heap: &mut Heap, w: u64, hash: u64, key: u64) {
+        let int = Some(i128::from(key as i64));
+        let Ok(m) = coll::map_ref(heap, w) else { return };
+        let pos = m.store.find(hash, int, |k| k == key);
+        let growth = if pos.is_none() { m.store.growth_bytes(int) } else { 0 };
+        let Ok(store) = coll::map_store_mut(heap, w, growth) else { return };
+        match pos {
+            Some(p) => store.set_value(p, key),
+            None => {
+                store.insert(hash, key, key, int);
+            }
+        }
+    }
+
+    fn find(heap: &Heap, w: u64, hash: u64, key: u64) -> u64 {
+        let Ok(m) = coll::map_ref(heap, w) else { return 0 };
+        m.store.find(hash, Some(i128::from(key as i64)), |k| k == key).unwrap_or(0) as u64
+    }
+
+    fn remove(heap: &mut Heap, w: u64, hash: u64, key: u64) {
+        let Ok(m) = coll::map_ref(heap, w) else { return };
+        let Some(p) = m.store.find(hash, Some(i128::from(key as i64)), |k| k == key) else { return };
+        if let Ok(store) = coll::map_store_mut(heap, w, 0) {
+            store.remove(p);
+        }
+    }
+
+    fn iter_next(heap: &mut Heap, w: u64) -> u64 {
+        coll::iter_next(heap, w).ok().flatten().unwrap_or(0)
+    }
+}
+
 impl Side for Original {
     fn open(&mut self) {
         self.heap = Heap::new(1 << 40);
@@ -45,125 +127,90 @@ impl Side for Original {
 
     #[inline(never)]
     fn read_box(&mut self, words: &[u64]) -> u64 {
-        let mut sum = 0u64;
-        for &w in words {
-            sum = sum.wrapping_add(self.heap.box_value(w).unwrap_or(0));
-        }
-        sum
+        words.iter().fold(0u64, |sum, &w| sum.wrapping_add(read_box(&self.heap, w)))
     }
 
     #[inline(never)]
     fn store_box(&mut self, words: &[u64], values: &[u64]) {
         for (&w, &v) in words.iter().zip(values) {
-            self.heap.set_box(w, v);
+            store_box(&mut self.heap, w, v);
         }
     }
 
     #[inline(never)]
     fn read_item(&mut self, words: &[u64], positions: &[u64]) -> u64 {
-        let mut sum = 0u64;
-        for (&w, &p) in words.iter().zip(positions) {
-            sum = sum.wrapping_add(coll::array_get(&self.heap, w, p as i64).unwrap_or(0));
-        }
-        sum
+        words.iter().zip(positions).fold(0u64, |sum, (&w, &p)| sum.wrapping_add(read_item(&self.heap, w, p)))
     }
 
     #[inline(never)]
     fn store_item(&mut self, words: &[u64], positions: &[u64], v: u64) {
         for (&w, &p) in words.iter().zip(positions) {
-            let _ = coll::array_set_raw(&mut self.heap, w, p as usize, v);
+            store_item(&mut self.heap, w, p, v);
         }
     }
 
     #[inline(never)]
     fn new_box(&mut self, w: u64, out: &mut [u64]) {
         for o in out {
-            *o = self.heap.alloc_box(w).unwrap_or(0);
+            *o = new_box(&mut self.heap, w);
         }
     }
 
     #[inline(never)]
     fn new_array(&mut self, t: u64, size: i64, out: &mut [u64]) {
         for o in out {
-            *o = coll::new_array(&mut self.heap, type_of(t), size).unwrap_or(0);
+            *o = new_array(&mut self.heap, t, size);
         }
     }
 
     #[inline(never)]
     fn new_map(&mut self, out: &mut [u64]) {
         for o in out {
-            *o = coll::new_map(&mut self.heap, ValType::I64, ValType::I64).unwrap_or(0);
+            *o = new_map(&mut self.heap);
         }
     }
 
     #[inline(never)]
     fn new_iter(&mut self, source: u64, out: &mut [u64]) {
         for o in out {
-            *o = coll::new_iter(&mut self.heap, source, false).and_then(Result::ok).unwrap_or(0);
+            *o = new_iter(&mut self.heap, source);
         }
     }
 
     #[inline(never)]
     fn push(&mut self, w: u64, values: &[u64]) {
         for &v in values {
-            let _ = coll::array_push(&mut self.heap, w, v);
+            push(&mut self.heap, w, v);
         }
     }
 
     #[inline(never)]
     fn pop(&mut self, w: u64, n: usize) -> u64 {
-        let mut sum = 0u64;
-        for _ in 0..n {
-            sum = sum.wrapping_add(coll::array_pop(&mut self.heap, w).unwrap_or(0));
-        }
-        sum
+        (0..n).fold(0u64, |sum, _| sum.wrapping_add(pop(&mut self.heap, w)))
     }
 
     #[inline(never)]
     fn put(&mut self, w: u64, hashes: &[u64], keys: &[u64]) {
         for (&hash, &key) in hashes.iter().zip(keys) {
-            let int = Some(i128::from(key as i64));
-            let Ok(m) = coll::map_ref(&self.heap, w) else { continue };
-            let pos = m.store.find(hash, int, |k| k == key);
-            let growth = if pos.is_none() { m.store.growth_bytes(int) } else { 0 };
-            let Ok(store) = coll::map_store_mut(&mut self.heap, w, growth) else { continue };
-            match pos {
-                Some(p) => store.set_value(p, key),
-                None => {
-                    store.insert(hash, key, key, int);
-                }
-            }
+            put(&mut self.heap, w, hash, key);
         }
     }
 
     #[inline(never)]
     fn find(&mut self, w: u64, hashes: &[u64], keys: &[u64]) -> u64 {
-        let mut sum = 0u64;
-        for (&hash, &key) in hashes.iter().zip(keys) {
-            let Ok(m) = coll::map_ref(&self.heap, w) else { continue };
-            sum = sum.wrapping_add(m.store.find(hash, Some(i128::from(key as i64)), |k| k == key).unwrap_or(0) as u64);
-        }
-        sum
+        hashes.iter().zip(keys).fold(0u64, |sum, (&hash, &key)| sum.wrapping_add(find(&self.heap, w, hash, key)))
     }
 
     #[inline(never)]
     fn remove(&mut self, w: u64, hashes: &[u64], keys: &[u64]) {
         for (&hash, &key) in hashes.iter().zip(keys) {
-            let Ok(m) = coll::map_ref(&self.heap, w) else { continue };
-            let Some(p) = m.store.find(hash, Some(i128::from(key as i64)), |k| k == key) else { continue };
-            if let Ok(store) = coll::map_store_mut(&mut self.heap, w, 0) {
-                store.remove(p);
-            }
+            remove(&mut self.heap, w, hash, key);
         }
     }
 
     #[inline(never)]
     fn iter_next(&mut self, w: u64, n: usize) -> u64 {
-        let mut sum = 0u64;
-        for _ in 0..n {
-            sum = sum.wrapping_add(coll::iter_next(&mut self.heap, w).ok().flatten().unwrap_or(0));
-        }
-        sum
+        (0..n).fold(0u64, |sum, _| sum.wrapping_add(iter_next(&mut self.heap, w)))
     }
 
     #[inline(never)]

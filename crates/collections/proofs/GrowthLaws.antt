@@ -39,15 +39,12 @@ module _ {t : State} {i size : ℕ} (g : Good t) (w : Lengthening t i size) wher
   pub taken-fits : {h : Header} → h ≡ headerAt (t .slots) i → t .heap .taken + (size - h .size) ≤ 1048576
   taken-fits e = rw e (omega (arith, w .fits, w .more, g .laid .cells-max))
 
-  pub taken-none : t .heap .taken + 0 ≤ 1048576
-  taken-none = omega (arith, g .cells-fit, g .laid .cells-max)
-
   -- ---- the region as long as it was
 
   same-header : (h : Header) → h .size ≡ size → h ≡ withRegion h size (h .start) (h .entry)
   same-header h e = ap (λ (n : ℕ). withRegion h n (h .start) (h .entry)) e
 
-  same-grown : headerAt (t .slots) i .size ≡ size → Grown (t .heap .fresh) i size (topOf (t .heap)) (t .slots) (t .directory) (t .cells) (t .slots) (t .directory) (t .cells)
+  pub same-grown : headerAt (t .slots) i .size ≡ size → Grown (t .heap .fresh) i size (topOf (t .heap)) (t .slots) (t .directory) (t .cells) (t .slots) (t .directory) (t .cells)
   same-grown e = record {
     laid = g .laid;
     header = same-header (headerAt (t .slots) i) e;

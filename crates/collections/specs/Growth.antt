@@ -11,7 +11,9 @@ use Rattle.cells.specs.Regions.{Grown}
 use Rattle.cells.specs.declared.Top.{Top}
 use Rattle.map_store.specs.Store.{grownBy, grownCapacity}
 use Rattle.heap.specs.declared.Heap.{Heap}
+use Rattle.heap.specs.declared.Done.{Done}
 use Rattle.heap.specs.State.{State, withRegions}
+use Rattle.collections.specs.declared.Changed.{Changed}
 
 -- what a longer region asks: the cells of all regions fit
 pub record Lengthening (t : State) (i size : ℕ) : Type 0 where
@@ -21,6 +23,13 @@ pub record Lengthening (t : State) (i size : ℕ) : Type 0 where
 
 abbrev pub topOf : Heap → Top
 topOf h = record { cells = h .top; entries = h .entries }
+
+-- what a change has made of the record
+abbrev pub changed : Account → Top → ℕ → Done → Changed
+changed account top taken done = record { account = account; top = top; taken = taken; done = done }
+
+abbrev pub changedHeap : Heap → Changed → Heap
+changedHeap h c = withRegions h (c .account) (c .top .cells) (c .top .entries) (c .taken)
 
 -- the region of slot i has `size` cells, its first ones those that it had; the record h
 pub record Lengthened (b : State) (i size : ℕ) (account : Account) (h : Heap) (s dir c : List ℕ) : Type 0 where

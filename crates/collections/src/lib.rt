@@ -6,7 +6,7 @@ ghost use Rattle.layout.specs.Layout.{isTraced};
 ghost use Rattle.map_store.specs.Store as Maps;
 ghost use Rattle.map_store.specs.Map as Map;
 ghost use Rattle.map_store.specs.View.{cursorIs};
-ghost use Rattle.cells.specs.Regions.{regionOf};
+ghost use Rattle.cells.specs.Regions.{Grown, regionOf};
 ghost use Rattle.model.specs.Calls as Calls;
 ghost use Rattle.heap.specs.Answers.{doneIs, madeIs, readingIs, testIs};
 ghost use Rattle.heap.specs.Kinds.{cursorOf};
@@ -17,7 +17,7 @@ ghost use Rattle.heap.proofs.ReachLaws.{Target};
 ghost use Rattle.heap.proofs.StepLaws.{OwnCells};
 ghost use Rattle.collections.specs.Answers.{perhapsIs, entrySeen, nextSeen, notedSeen, cursorSeen, lentSeen, stepSeen};
 ghost use Rattle.collections.specs.Words.{WordOf, mapFrom, MapWritten, flagOf, ItemIs, ZeroCharge};
-ghost use Rattle.collections.specs.Growth.{Lengthening, Lengthened, pushSize, pushBytes, Appending, Appended};
+ghost use Rattle.collections.specs.Growth.{Lengthening, pushSize, pushBytes, Appending, Appended, changed, changedHeap, topOf};
 ghost use Rattle.collections.specs.Changes.{Inserting, Removing, RemovingKey, InRegion, IsMap, Inserts, Removes, roomAfter, roomWithout, roomWithoutKey};
 ghost use Rattle.collections.specs.Beginning.{Begins};
 ghost use Rattle.collections.specs.Visits.{ArrayKnown, MapKnown, Ends, Moves, VisitsArray, VisitsMap, Visits};
@@ -226,20 +226,47 @@ fn write_map(slots: &mut [u64], scalars: &mut [u64], i: usize, s: MapStore)
     slots::write_scalars(scalars, i, y);
 }
 
-// The record after a change that took `more` cells.
-fn grown(heap: Heap, account: Account, t: Top, more: u64) -> Heap
-    requires { ⌜ heap .taken + more ≤ 1048576 ⌝ }
-    ensures { λ r. ⌜ r ≡ withRegions heap account (t .cells) (t .entries) (heap .taken + more) ⌝ }
-{
-    let mut g = heap;
-    g.account = account;
-    g.top = t.cells;
-    g.entries = t.entries;
-    g.taken = heap.taken + more;
-    g
+// What a change has made of the record: its account, the regions' top and the cells in use. The rest
+// of the record is as it was and is not handed on, so that no call copies it from exit to exit.
+struct Changed {
+    account: Account,
+    top: Top,
+    taken: u64,
+    done: Done,
 }
 
-// The region of slot i made `size` cells long, not shorter than it is; the record afterwards, with this account.
+fn unchanged(heap: Heap, done: Done) -> Changed
+    ensures { λ r. ⌜ r ≡ changed (heap .account) (topOf heap) (heap .taken) done ⌝ }
+{
+    let account = heap.account;
+    let top = Top {
+        cells: heap.top,
+        entries: heap.entries,
+    };
+    Changed {
+        account,
+        top,
+        taken: heap.taken,
+        done,
+    }
+}
+
+// The record with what was changed.
+fn settle(heap: Heap, c: Changed) -> Settled
+    ensures { λ r. ⌜ (r .heap ≡ changedHeap heap c) × (r .done ≡ c .done) ⌝ }
+{
+    let account = c.account;
+    let top = c.top;
+    let done = c.done;
+    let mut g = heap;
+    g.account = account;
+    g.top = top.cells;
+    g.entries = top.entries;
+    g.taken = c.taken;
+    Settled { heap: g, done }
+}
+
+// The region of slot i made `size` cells long, not shorter than it is; the regions' top afterwards.
 fn longer(
     heap: Heap,
     slots: &mut [u64],
@@ -249,11 +276,10 @@ fn longer(
     cells: &mut [u64],
     i: usize,
     size: u64,
-    account: Account,
-) -> Heap
+) -> Top
     requires good { ⌜ Good (state heap (now slots) (now scalars) (now list) (now directory) (now cells)) ⌝ }
     requires room { ⌜ Lengthening (state heap (now slots) (now scalars) (now list) (now directory) (now cells)) i size ⌝ }
-    ensures { λ r. ⌜ Lengthened (state heap (now (slots .entry)) (now (scalars .entry)) (now (list .entry)) (now (directory .entry)) (now (cells .entry))) i size account r (now (slots .exit)) (now (directory .exit)) (now (cells .exit)) ⌝ }
+    ensures { λ r. ⌜ Grown (heap .fresh) i size r (now (slots .entry)) (now (directory .entry)) (now (cells .entry)) (now (slots .exit)) (now (directory .exit)) (now (cells .exit)) ⌝ }
 {
     let h = slots::read_header(slots, i);
     let t = Top {
@@ -261,9 +287,9 @@ fn longer(
         entries: heap.entries,
     };
     if size <= h.size {
-        return grown(heap, account, t, 0);
+        return t;
     }
-    let q = cells::grow(
+    cells::grow(
         slots,
         heap.fresh,
         directory,
@@ -272,8 +298,7 @@ fn longer(
         cells,
         i,
         size,
-    );
-    grown(heap, account, q, size - h.size)
+    )
 }
 
 // The capacity of an array after a push, and the bytes that it is charged.
@@ -325,25 +350,19 @@ fn push_at(
     w: u64,
     i: usize,
     v: u64,
-) -> Settled
+) -> Changed
     requires good { ⌜ Good (state heap (now slots) (now scalars) (now list) (now directory) (now cells)) ⌝ }
     requires array { ⌜ Target (state heap (now slots) (now scalars) (now list) (now directory) (now cells)) w i 6 ⌝ }
-    ensures { λ r. ⌜ Performs (Calls.push w v) (state heap (now (slots .entry)) (now (scalars .entry)) (now (list .entry)) (now (directory .entry)) (now (cells .entry))) (doneIs (r .done)) (state (r .heap) (now (slots .exit)) (now (scalars .entry)) (now (list .entry)) (now (directory .exit)) (now (cells .exit))) ⌝ }
+    ensures { λ r. ⌜ Performs (Calls.push w v) (state heap (now (slots .entry)) (now (scalars .entry)) (now (list .entry)) (now (directory .entry)) (now (cells .entry))) (doneIs (r .done)) (state (changedHeap heap r) (now (slots .exit)) (now (scalars .entry)) (now (list .entry)) (now (directory .exit)) (now (cells .exit))) ⌝ }
 {
     let h = slots::read_header(slots, i);
     let size = push_size(h.len, h.size);
     let account = heap.account;
     match account.charge(push_bytes(h.len, h.size)) {
-        Charged::Refused => Settled {
-            heap,
-            done: Done::Refused(Refusal::OverBudget),
-        },
+        Charged::Refused => unchanged(heap, Done::Refused(Refusal::OverBudget)),
         Charged::Next(next) => {
             if (cells.len() as u64) - heap.taken < size - h.size {
-                return Settled {
-                    heap,
-                    done: Done::Refused(Refusal::NoCells),
-                };
+                return unchanged(heap, Done::Refused(Refusal::NoCells));
             }
             let word = item(heap, slots, scalars, list, directory, cells, h.mode, v);
             let t = Top {
@@ -360,10 +379,11 @@ fn push_at(
                 i,
                 size,
             );
-            let g = grown(heap, next, q, size - h.size);
             append(slots, cells, i, word);
-            Settled {
-                heap: g,
+            Changed {
+                account: next,
+                top: q,
+                taken: heap.taken + (size - h.size),
                 done: Done::Accepted,
             }
         }
@@ -439,42 +459,35 @@ fn insert_at(
     hash: u64,
     key: u64,
     value: u64,
-) -> Settled
+) -> Changed
     requires good { ⌜ Good (state heap (now slots) (now scalars) (now list) (now directory) (now cells)) ⌝ }
     requires map { ⌜ IsMap (state heap (now slots) (now scalars) (now list) (now directory) (now cells)) i ⌝ }
-    ensures { λ r. ⌜ Inserts (state heap (now (slots .entry)) (now (scalars .entry)) (now (list .entry)) (now (directory .entry)) (now (cells .entry))) i hash key value (doneIs (r .done)) (state (r .heap) (now (slots .exit)) (now (scalars .exit)) (now (list .entry)) (now (directory .exit)) (now (cells .exit))) ⌝ }
+    ensures { λ r. ⌜ Inserts (state heap (now (slots .entry)) (now (scalars .entry)) (now (list .entry)) (now (directory .entry)) (now (cells .entry))) i hash key value (doneIs (r .done)) (state (changedHeap heap r) (now (slots .exit)) (now (scalars .exit)) (now (list .entry)) (now (directory .exit)) (now (cells .exit))) ⌝ }
 {
     let h = slots::read_header(slots, i);
     let x = slots::read_scalars(scalars, i);
     let s = map_of(h, x);
     if 4294967296 <= s.fresh {
-        return Settled {
-            heap,
-            done: Done::Refused(Refusal::Spent),
-        };
+        return unchanged(heap, Done::Refused(Refusal::Spent));
     }
     let t = traced(x.a);
     let weights = heap.weights;
     let bytes = map_store::growth_bytes(s, region(cells, h), weights.entry, t, key);
     let account = heap.account;
     match account.charge(bytes) {
-        Charged::Refused => Settled {
-            heap,
-            done: Done::Refused(Refusal::OverBudget),
-        },
+        Charged::Refused => unchanged(heap, Done::Refused(Refusal::OverBudget)),
         Charged::Next(next) => {
             let size = map_store::cells_after_insert(s, region(cells, h), t, key) as u64;
             if (cells.len() as u64) - heap.taken < size - h.size {
-                return Settled {
-                    heap,
-                    done: Done::Refused(Refusal::NoCells),
-                };
+                return unchanged(heap, Done::Refused(Refusal::NoCells));
             }
-            let g = longer(heap, slots, scalars, list, directory, cells, i, size, next);
+            let top = longer(heap, slots, scalars, list, directory, cells, i, size);
             let n = insert_in(cells, slots::read_header(slots, i), s, t, hash, key, value);
             write_map(slots, scalars, i, n);
-            Settled {
-                heap: g,
+            Changed {
+                account: next,
+                top,
+                taken: heap.taken + (size - h.size),
                 done: Done::Accepted,
             }
         }
@@ -491,35 +504,25 @@ fn remove_place(
     cells: &mut [u64],
     i: usize,
     pos: usize,
-) -> Settled
+) -> Changed
     requires good { ⌜ Good (state heap (now slots) (now scalars) (now list) (now directory) (now cells)) ⌝ }
     requires map { ⌜ IsMap (state heap (now slots) (now scalars) (now list) (now directory) (now cells)) i ⌝ }
-    ensures { λ r. ⌜ Removes (state heap (now (slots .entry)) (now (scalars .entry)) (now (list .entry)) (now (directory .entry)) (now (cells .entry))) i pos (doneIs (r .done)) (state (r .heap) (now (slots .exit)) (now (scalars .exit)) (now (list .entry)) (now (directory .exit)) (now (cells .exit))) ⌝ }
+    ensures { λ r. ⌜ Removes (state heap (now (slots .entry)) (now (scalars .entry)) (now (list .entry)) (now (directory .entry)) (now (cells .entry))) i pos (doneIs (r .done)) (state (changedHeap heap r) (now (slots .exit)) (now (scalars .exit)) (now (list .entry)) (now (directory .exit)) (now (cells .exit))) ⌝ }
 {
     let h = slots::read_header(slots, i);
     let s = map_of(h, slots::read_scalars(scalars, i));
     let size = map_store::cells_after_remove(s, region(cells, h)) as u64;
     if (cells.len() as u64) - heap.taken < size - h.size {
-        return Settled {
-            heap,
-            done: Done::Refused(Refusal::NoCells),
-        };
+        return unchanged(heap, Done::Refused(Refusal::NoCells));
     }
-    let g = longer(
-        heap,
-        slots,
-        scalars,
-        list,
-        directory,
-        cells,
-        i,
-        size,
-        heap.account,
-    );
+    let top = longer(heap, slots, scalars, list, directory, cells, i, size);
     let n = remove_in(cells, slots::read_header(slots, i), s, pos);
     write_map(slots, scalars, i, n);
-    Settled {
-        heap: g,
+    let account = heap.account;
+    Changed {
+        account,
+        top,
+        taken: heap.taken + (size - h.size),
         done: Done::Accepted,
     }
 }
@@ -1269,6 +1272,38 @@ pub fn iter_next(
     }
 }
 
+fn push_change(
+    heap: Heap,
+    slots: &mut [u64],
+    scalars: &[u64],
+    list: &[u64],
+    directory: &mut [u64],
+    cells: &mut [u64],
+    w: u64,
+    v: u64,
+) -> Changed
+    requires { ⌜ Good (state heap (now slots) (now scalars) (now list) (now directory) (now cells)) ⌝ }
+    ensures { λ r. ⌜ Performs (Calls.push w v) (state heap (now (slots .entry)) (now (scalars .entry)) (now (list .entry)) (now (directory .entry)) (now (cells .entry))) (doneIs (r .done)) (state (changedHeap heap r) (now (slots .exit)) (now (scalars .entry)) (now (list .entry)) (now (directory .exit)) (now (cells .exit))) ⌝ }
+{
+    match heap::locate(slots, heap.fresh, w, ARRAY) {
+        Located::Refused(q) => unchanged(heap, Done::Refused(q)),
+        Located::At(i) => {
+            let h = slots::read_header(slots, i);
+            if h.len == h.size {
+                return push_at(heap, slots, scalars, list, directory, cells, w, i, v);
+            }
+            let account = heap.account;
+            let fits = zero_fits(account);
+            if !fits {
+                return unchanged(heap, Done::Refused(Refusal::OverBudget));
+            }
+            let x = item(heap, slots, scalars, list, directory, cells, h.mode, v);
+            append(slots, cells, i, x);
+            unchanged(heap, Done::Accepted)
+        }
+    }
+}
+
 // An item behind the last of an array. Where there is room for it, nothing is charged and the record stays.
 pub fn push(
     heap: Heap,
@@ -1283,31 +1318,39 @@ pub fn push(
     requires { ⌜ Good (state heap (now slots) (now scalars) (now list) (now directory) (now cells)) ⌝ }
     ensures { λ r. ⌜ Performs (Calls.push w v) (state heap (now (slots .entry)) (now (scalars .entry)) (now (list .entry)) (now (directory .entry)) (now (cells .entry))) (doneIs (r .done)) (state (r .heap) (now (slots .exit)) (now (scalars .entry)) (now (list .entry)) (now (directory .exit)) (now (cells .exit))) ⌝ }
 {
-    match heap::locate(slots, heap.fresh, w, ARRAY) {
-        Located::Refused(q) => Settled {
+    let c = push_change(heap, slots, scalars, list, directory, cells, w, v);
+    settle(heap, c)
+}
+
+fn insert_entry_change(
+    heap: Heap,
+    slots: &mut [u64],
+    scalars: &mut [u64],
+    list: &[u64],
+    directory: &mut [u64],
+    cells: &mut [u64],
+    w: u64,
+    hash: u64,
+    key: u64,
+    value: u64,
+) -> Changed
+    requires { ⌜ Good (state heap (now slots) (now scalars) (now list) (now directory) (now cells)) ⌝ }
+    ensures { λ r. ⌜ Performs (Calls.insert-entry w hash key value) (state heap (now (slots .entry)) (now (scalars .entry)) (now (list .entry)) (now (directory .entry)) (now (cells .entry))) (doneIs (r .done)) (state (changedHeap heap r) (now (slots .exit)) (now (scalars .exit)) (now (list .entry)) (now (directory .exit)) (now (cells .exit))) ⌝ }
+{
+    match heap::locate(slots, heap.fresh, w, MAP) {
+        Located::Refused(q) => unchanged(heap, Done::Refused(q)),
+        Located::At(i) => insert_at(
             heap,
-            done: Done::Refused(q),
-        },
-        Located::At(i) => {
-            let h = slots::read_header(slots, i);
-            if h.len == h.size {
-                return push_at(heap, slots, scalars, list, directory, cells, w, i, v);
-            }
-            let account = heap.account;
-            let fits = zero_fits(account);
-            if !fits {
-                return Settled {
-                    heap,
-                    done: Done::Refused(Refusal::OverBudget),
-                };
-            }
-            let x = item(heap, slots, scalars, list, directory, cells, h.mode, v);
-            append(slots, cells, i, x);
-            Settled {
-                heap,
-                done: Done::Accepted,
-            }
-        }
+            slots,
+            scalars,
+            list,
+            directory,
+            cells,
+            i,
+            hash,
+            key,
+            value,
+        ),
     }
 }
 
@@ -1327,28 +1370,22 @@ pub fn insert_entry(
     requires { ⌜ Good (state heap (now slots) (now scalars) (now list) (now directory) (now cells)) ⌝ }
     ensures { λ r. ⌜ Performs (Calls.insert-entry w hash key value) (state heap (now (slots .entry)) (now (scalars .entry)) (now (list .entry)) (now (directory .entry)) (now (cells .entry))) (doneIs (r .done)) (state (r .heap) (now (slots .exit)) (now (scalars .exit)) (now (list .entry)) (now (directory .exit)) (now (cells .exit))) ⌝ }
 {
-    match heap::locate(slots, heap.fresh, w, MAP) {
-        Located::Refused(q) => Settled {
-            heap,
-            done: Done::Refused(q),
-        },
-        Located::At(i) => insert_at(
-            heap,
-            slots,
-            scalars,
-            list,
-            directory,
-            cells,
-            i,
-            hash,
-            key,
-            value,
-        ),
-    }
+    let c = insert_entry_change(
+        heap,
+        slots,
+        scalars,
+        list,
+        directory,
+        cells,
+        w,
+        hash,
+        key,
+        value,
+    );
+    settle(heap, c)
 }
 
-// The value of a key: overwritten where the key is found, else an entry is added.
-pub fn put(
+fn put_change(
     heap: Heap,
     slots: &mut [u64],
     scalars: &mut [u64],
@@ -1359,15 +1396,12 @@ pub fn put(
     hash: u64,
     key: u64,
     value: u64,
-) -> Settled
+) -> Changed
     requires { ⌜ Good (state heap (now slots) (now scalars) (now list) (now directory) (now cells)) ⌝ }
-    ensures { λ r. ⌜ Performs (Calls.put w hash key value) (state heap (now (slots .entry)) (now (scalars .entry)) (now (list .entry)) (now (directory .entry)) (now (cells .entry))) (doneIs (r .done)) (state (r .heap) (now (slots .exit)) (now (scalars .exit)) (now (list .entry)) (now (directory .exit)) (now (cells .exit))) ⌝ }
+    ensures { λ r. ⌜ Performs (Calls.put w hash key value) (state heap (now (slots .entry)) (now (scalars .entry)) (now (list .entry)) (now (directory .entry)) (now (cells .entry))) (doneIs (r .done)) (state (changedHeap heap r) (now (slots .exit)) (now (scalars .exit)) (now (list .entry)) (now (directory .exit)) (now (cells .exit))) ⌝ }
 {
     match heap::locate(slots, heap.fresh, w, MAP) {
-        Located::Refused(q) => Settled {
-            heap,
-            done: Done::Refused(q),
-        },
+        Located::Refused(q) => unchanged(heap, Done::Refused(q)),
         Located::At(i) => {
             let h = slots::read_header(slots, i);
             let x = slots::read_scalars(scalars, i);
@@ -1389,19 +1423,72 @@ pub fn put(
                     let account = heap.account;
                     let fits = zero_fits(account);
                     if !fits {
-                        return Settled {
-                            heap,
-                            done: Done::Refused(Refusal::OverBudget),
-                        };
+                        return unchanged(heap, Done::Refused(Refusal::OverBudget));
                     }
                     set_value_in(cells, h, s, pos, value);
-                    Settled {
-                        heap,
-                        done: Done::Accepted,
-                    }
+                    unchanged(heap, Done::Accepted)
                 }
             }
         }
+    }
+}
+
+// The value of a key: overwritten where the key is found, else an entry is added.
+pub fn put(
+    heap: Heap,
+    slots: &mut [u64],
+    scalars: &mut [u64],
+    list: &[u64],
+    directory: &mut [u64],
+    cells: &mut [u64],
+    w: u64,
+    hash: u64,
+    key: u64,
+    value: u64,
+) -> Settled
+    requires { ⌜ Good (state heap (now slots) (now scalars) (now list) (now directory) (now cells)) ⌝ }
+    ensures { λ r. ⌜ Performs (Calls.put w hash key value) (state heap (now (slots .entry)) (now (scalars .entry)) (now (list .entry)) (now (directory .entry)) (now (cells .entry))) (doneIs (r .done)) (state (r .heap) (now (slots .exit)) (now (scalars .exit)) (now (list .entry)) (now (directory .exit)) (now (cells .exit))) ⌝ }
+{
+    let c = put_change(
+        heap,
+        slots,
+        scalars,
+        list,
+        directory,
+        cells,
+        w,
+        hash,
+        key,
+        value,
+    );
+    settle(heap, c)
+}
+
+fn remove_at_change(
+    heap: Heap,
+    slots: &mut [u64],
+    scalars: &mut [u64],
+    list: &[u64],
+    directory: &mut [u64],
+    cells: &mut [u64],
+    w: u64,
+    pos: u64,
+) -> Changed
+    requires { ⌜ Good (state heap (now slots) (now scalars) (now list) (now directory) (now cells)) ⌝ }
+    ensures { λ r. ⌜ Performs (Calls.remove-at w pos) (state heap (now (slots .entry)) (now (scalars .entry)) (now (list .entry)) (now (directory .entry)) (now (cells .entry))) (doneIs (r .done)) (state (changedHeap heap r) (now (slots .exit)) (now (scalars .exit)) (now (list .entry)) (now (directory .exit)) (now (cells .exit))) ⌝ }
+{
+    match heap::locate(slots, heap.fresh, w, MAP) {
+        Located::Refused(q) => unchanged(heap, Done::Refused(q)),
+        Located::At(i) => remove_place(
+            heap,
+            slots,
+            scalars,
+            list,
+            directory,
+            cells,
+            i,
+            pos as usize,
+        ),
     }
 }
 
@@ -1419,21 +1506,50 @@ pub fn remove_at(
     requires { ⌜ Good (state heap (now slots) (now scalars) (now list) (now directory) (now cells)) ⌝ }
     ensures { λ r. ⌜ Performs (Calls.remove-at w pos) (state heap (now (slots .entry)) (now (scalars .entry)) (now (list .entry)) (now (directory .entry)) (now (cells .entry))) (doneIs (r .done)) (state (r .heap) (now (slots .exit)) (now (scalars .exit)) (now (list .entry)) (now (directory .exit)) (now (cells .exit))) ⌝ }
 {
+    let c = remove_at_change(heap, slots, scalars, list, directory, cells, w, pos);
+    settle(heap, c)
+}
+
+fn remove_change(
+    heap: Heap,
+    slots: &mut [u64],
+    scalars: &mut [u64],
+    list: &[u64],
+    directory: &mut [u64],
+    cells: &mut [u64],
+    w: u64,
+    hash: u64,
+    key: u64,
+) -> Changed
+    requires { ⌜ Good (state heap (now slots) (now scalars) (now list) (now directory) (now cells)) ⌝ }
+    ensures { λ r. ⌜ Performs (Calls.remove w hash key) (state heap (now (slots .entry)) (now (scalars .entry)) (now (list .entry)) (now (directory .entry)) (now (cells .entry))) (doneIs (r .done)) (state (changedHeap heap r) (now (slots .exit)) (now (scalars .exit)) (now (list .entry)) (now (directory .exit)) (now (cells .exit))) ⌝ }
+{
     match heap::locate(slots, heap.fresh, w, MAP) {
-        Located::Refused(q) => Settled {
-            heap,
-            done: Done::Refused(q),
-        },
-        Located::At(i) => remove_place(
-            heap,
-            slots,
-            scalars,
-            list,
-            directory,
-            cells,
-            i,
-            pos as usize,
-        ),
+        Located::Refused(q) => unchanged(heap, Done::Refused(q)),
+        Located::At(i) => {
+            let h = slots::read_header(slots, i);
+            let x = slots::read_scalars(scalars, i);
+            let s = map_of(h, x);
+            let t = traced(x.a);
+            if s.hashed {
+                let n = remove_key_in(cells, h, s, t, hash, key);
+                write_map(slots, scalars, i, n);
+                return unchanged(heap, Done::Accepted);
+            }
+            match map_store::find(s, region(cells, h), t, hash, key) {
+                map_store::Found::Nothing => unchanged(heap, Done::Accepted),
+                map_store::Found::At(pos) => remove_place(
+                    heap,
+                    slots,
+                    scalars,
+                    list,
+                    directory,
+                    cells,
+                    i,
+                    pos,
+                ),
+            }
+        }
     }
 }
 
@@ -1452,42 +1568,8 @@ pub fn remove(
     requires { ⌜ Good (state heap (now slots) (now scalars) (now list) (now directory) (now cells)) ⌝ }
     ensures { λ r. ⌜ Performs (Calls.remove w hash key) (state heap (now (slots .entry)) (now (scalars .entry)) (now (list .entry)) (now (directory .entry)) (now (cells .entry))) (doneIs (r .done)) (state (r .heap) (now (slots .exit)) (now (scalars .exit)) (now (list .entry)) (now (directory .exit)) (now (cells .exit))) ⌝ }
 {
-    match heap::locate(slots, heap.fresh, w, MAP) {
-        Located::Refused(q) => Settled {
-            heap,
-            done: Done::Refused(q),
-        },
-        Located::At(i) => {
-            let h = slots::read_header(slots, i);
-            let x = slots::read_scalars(scalars, i);
-            let s = map_of(h, x);
-            let t = traced(x.a);
-            if s.hashed {
-                let n = remove_key_in(cells, h, s, t, hash, key);
-                write_map(slots, scalars, i, n);
-                return Settled {
-                    heap,
-                    done: Done::Accepted,
-                };
-            }
-            match map_store::find(s, region(cells, h), t, hash, key) {
-                map_store::Found::Nothing => Settled {
-                    heap,
-                    done: Done::Accepted,
-                },
-                map_store::Found::At(pos) => remove_place(
-                    heap,
-                    slots,
-                    scalars,
-                    list,
-                    directory,
-                    cells,
-                    i,
-                    pos,
-                ),
-            }
-        }
-    }
+    let c = remove_change(heap, slots, scalars, list, directory, cells, w, hash, key);
+    settle(heap, c)
 }
 
 // A map without entries.

@@ -1,28 +1,16 @@
 -- `collections::insert_entry` meets its contract. Assumes nothing.
-use Rattle.heap.specs.Answers.{doneIs}
-use Rattle.collections.proofs.InsertLaws.{insert-does, insert-refused, located-map}
 use borrow.Author.Needs.{needs}
 use Rattle.collections.proofs.insert_entry.Statement.{statement}
 use Rattle.collections.proofs.insert_entry.Tie as tie
 
-locate-requires : tie.Need-locate-requires
-locate-requires c κs = search needs
+insert-entry-change-requires : tie.Need-insert-entry-change-requires
+insert-entry-change-requires c κs = search needs
 
-enum-known-q : tie.Need-enum-known-q
-enum-known-q c = search needs
-
-enum-known-i : tie.Need-enum-known-i
-enum-known-i c = search needs
-
-insert-at-requires : tie.Need-insert-at-requires
-insert-at-requires c κs = ((c .before .before .before .before .before .before .before .before .before .before .before .before .before .before .pre), located-map (c .before .before .before .before .before .before .before .before .before .before .before .before .before .before .pre) (c .before .before .before .before .before .before .before .locate .ensures) ((c .before .before .before .before .before .i .given) .1))
+settle-requires : tie.Need-settle-requires
+settle-requires c κs = search needs
 
 same-length : tie.Need-same-length
 same-length c = search needs
-
-returns : tie.Need-returns
-unfolding doneIs
-returns c = insert-refused (c .before .before .before .before .before .before .before .before .before .before .pre) (c .before .before .before .locate .ensures) ((c .before .q .given) .1)
 
 same-length-2 : tie.Need-same-length-2
 same-length-2 c = search needs
@@ -33,24 +21,8 @@ same-length-3 c = search needs
 same-length-4 : tie.Need-same-length-4
 same-length-4 c = search needs
 
-same-length-5 : tie.Need-same-length-5
-same-length-5 c = search needs
-
-returns-2 : tie.Need-returns-2
-returns-2 c = insert-does (c .before .before .before .before .before .before .before .before .before .before .before .before .before .before .before .before .before .before .before .before .before .before .before .pre) (c .before .before .before .before .before .before .before .before .before .before .before .before .before .before .before .before .locate .ensures) ((c .before .before .before .before .before .before .before .before .before .before .before .before .before .before .i .given) .1) (c .before .before .before .before .before .before .before .before .insert-at .ensures)
+returns : tie.Need-returns
+returns c = rw (c .settle .ensures .0, c .settle .ensures .1) (c .before .before .before .before .before .before .before .before .before .insert-entry-change .ensures)
 
 pub insert-entry-spec : {M : Type 1} → statement M
-insert-entry-spec =
-    tie.close
-    (tie.spec
-    locate-requires
-    enum-known-q
-    enum-known-i
-    insert-at-requires
-    same-length
-    returns
-    same-length-2
-    same-length-3
-    same-length-4
-    same-length-5
-    returns-2)
+insert-entry-spec = tie.close (tie.spec insert-entry-change-requires settle-requires same-length same-length-2 same-length-3 same-length-4 returns)

@@ -1,29 +1,16 @@
 -- `collections::remove_at` meets its contract. Assumes nothing.
-use Rattle.heap.specs.Answers.{doneIs}
-use Rattle.collections.proofs.InsertLaws.{located-map}
-use Rattle.collections.proofs.RemoveLaws.{remove-at-does, remove-at-refused}
 use borrow.Author.Needs.{needs}
 use Rattle.collections.proofs.remove_at.Statement.{statement}
 use Rattle.collections.proofs.remove_at.Tie as tie
 
-locate-requires : tie.Need-locate-requires
-locate-requires c κs = search needs
+remove-at-change-requires : tie.Need-remove-at-change-requires
+remove-at-change-requires c κs = search needs
 
-enum-known-q : tie.Need-enum-known-q
-enum-known-q c = search needs
-
-enum-known-i : tie.Need-enum-known-i
-enum-known-i c = search needs
-
-remove-place-requires : tie.Need-remove-place-requires
-remove-place-requires c κs = ((c .before .before .before .before .before .before .before .before .before .before .before .before .before .before .pre), located-map (c .before .before .before .before .before .before .before .before .before .before .before .before .before .before .pre) (c .before .before .before .before .before .before .before .locate .ensures) ((c .before .before .before .before .before .i .given) .1))
+settle-requires : tie.Need-settle-requires
+settle-requires c κs = search needs
 
 same-length : tie.Need-same-length
 same-length c = search needs
-
-returns : tie.Need-returns
-unfolding doneIs
-returns c = remove-at-refused (c .before .before .before .before .before .before .before .before .before .before .pre) (c .before .before .before .locate .ensures) ((c .before .q .given) .1)
 
 same-length-2 : tie.Need-same-length-2
 same-length-2 c = search needs
@@ -34,24 +21,8 @@ same-length-3 c = search needs
 same-length-4 : tie.Need-same-length-4
 same-length-4 c = search needs
 
-same-length-5 : tie.Need-same-length-5
-same-length-5 c = search needs
-
-returns-2 : tie.Need-returns-2
-returns-2 c = remove-at-does (c .before .before .before .before .before .before .before .before .before .before .before .before .before .before .before .before .before .before .before .before .before .before .before .pre) (c .before .before .before .before .before .before .before .before .before .before .before .before .before .before .before .before .locate .ensures) ((c .before .before .before .before .before .before .before .before .before .before .before .before .before .before .i .given) .1) (c .before .before .before .before .before .before .before .before .remove-place .ensures)
+returns : tie.Need-returns
+returns c = rw (c .settle .ensures .0, c .settle .ensures .1) (c .before .before .before .before .before .before .before .before .before .remove-at-change .ensures)
 
 pub remove-at-spec : {M : Type 1} → statement M
-remove-at-spec =
-    tie.close
-    (tie.spec
-    locate-requires
-    enum-known-q
-    enum-known-i
-    remove-place-requires
-    same-length
-    returns
-    same-length-2
-    same-length-3
-    same-length-4
-    same-length-5
-    returns-2)
+remove-at-spec = tie.close (tie.spec remove-at-change-requires settle-requires same-length same-length-2 same-length-3 same-length-4 returns)
