@@ -169,6 +169,9 @@ le-of m n e = go (decLe m n)
     go (yes l) = l
     go (no l) = let x : false ≡ true = sym (leb-no m n (omega arith)) ∙ e in let z : _≡_ {A = ℕ} 0 1 = cc in absurd (omega arith)
 
+and-yes : {a b : Bool} → a ≡ true → b ≡ true → (a && b) ≡ true
+and-yes e f = rw (e, f)
+
 both : (a b : Bool) → (a && b) ≡ true → (a ≡ true) × (b ≡ true)
 both true b e = (refl, e)
 both false b e = let z : _≡_ {A = ℕ} 0 1 = cc in absurd (omega arith)
@@ -179,15 +182,13 @@ within-of low n high e = let p = both (leb low n) (leb n high) e in (le-of low n
 module _ (o : Opening) (l : Layout) where
   fitting : Openable o l → sizesFit o ≡ true
   unfolding sizesFit
-  fitting x = rw (
-    within-yes 1 o.slots 65536 (x .slots),
-    leb-yes o.cells 1048576 (x .cells),
-    within-yes 1 (o .weights .slot) 4096 (x .slot-weight),
-    within-yes 1 (o .weights .entry) 4096 (x .entry-weight),
-    within-yes 1 (o .weights .iterator) 4096 (x .iterator-weight),
-    within-yes 1 (o .weights .coroutine) 4096 (x .coroutine-weight),
-    within-yes 1 (o .weights .frame) 4096 (x .frame-weight),
-  )
+  fitting x =
+      and-yes (within-yes 1 o.slots 65536 (x .slots))
+      (and-yes (leb-yes o.cells 1048576 (x .cells))
+      (and-yes (within-yes 1 (o .weights .slot) 4096 (x .slot-weight))
+      (and-yes (within-yes 1 (o .weights .entry) 4096 (x .entry-weight))
+      (and-yes (within-yes 1 (o .weights .iterator) 4096 (x .iterator-weight))
+      (and-yes (within-yes 1 (o .weights .coroutine) 4096 (x .coroutine-weight)) (within-yes 1 (o .weights .frame) 4096 (x .frame-weight)))))))
 
   openable : sizesFit o ≡ true → parse o.layout ≡ some l → Openable o l
   unfolding sizesFit
