@@ -14,6 +14,7 @@ judges, target = sys.argv[1:3]
 per = int(sys.argv[3]) if len(sys.argv) > 3 else 3
 sys.argv = [sys.argv[0], "--port="]  # the sizes that the program holds
 sys.path.insert(0, os.path.join(judges, "model"))
+sys.dont_write_bytecode = True
 import cases
 import compare
 import gen

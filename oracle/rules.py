@@ -109,6 +109,15 @@ for i, weight in enumerate(("slot", "entry", "iterator", "coroutine", "frame")):
     rule("Weights are given at opening, 1 to 4,096: " + weight, weighing(0), weighing(4097), weighing(1), weighed, weighing(4096), weighed, both=False)
 rule("1 to 65,536 slots, 0 to 1,048,576 lent cells", start(slots=0), start(slots=65537), start(cells=1048577), start(slots=1, cells=0), e("array", 0, 0), both=False)
 
+# ---- "cells are refused exactly if the cells of present objects plus those added exceed the total"
+rule("7: array, string, struct, function, coroutine with all cells and one more",
+     start(cells=10), *[refused + fitting + e("array", 0, 1) + e("cells") + e("collect", [], 0) for refused, fitting in (
+         (e("array", 0, 11), e("array", 0, 10)), (e("string", bytes(81)), e("string", bytes(80))), (e("struct", 0, [1] * 11), e("struct", 0, [1] * 10)),
+         (e("func", 0, 0, [1] * 11), e("func", 0, 0, [1] * 10)), (coro(0, 0, 0, [1] * 3, [(0, 0, 0, 0)] * 2), coro(0, 0, 0, [1] * 2, [(0, 0, 0, 0)] * 2)))], both=False)
+rule("7: push, put, insert and removal with all cells and one more",
+     start(cells=3), e("array", 0, 0), e("push", ref(0), 1), start(cells=4), e("array", 0, 0), e("push", ref(0), 1) * 5, start(cells=20), e("map", 0, 0),
+     on("put", *[(ref(0), k, k, 0) for k in range(5)]), e("remove_at", ref(0), 0), start(cells=23), e("map", 0, 0), e("insert", ref(0), 7, 7, 0), start(cells=24), e("map", 0, 0), e("insert", ref(0), 7, 7, 0), e("array", 0, 1), both=False)
+
 # ---- Traced words
 rule("key, then value of each live entry: a dead one's are not traced",
      start(), e("map", 1, 2), e("box", 5), e("box", 6), e("put", ref(0), 7, box(1), box(2)), e("collect", [ref(0)], 1), e("remove_at", ref(0), 0), e("collect", [ref(0)], 1))
