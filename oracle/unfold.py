@@ -1,34 +1,34 @@
 #!/usr/bin/env python3
-"""unfold.py: names, in the files that compute with the definitions, all definitions that the computation opens.
+"""unfold.py: names, in crates/model/specs/Cases.antt, all definitions that the computation of the cases opens.
 
-Run at the repository's root. It rewrites, in crates/model/specs/Cases.antt and crates/trials/specs/Trial.antt, the lines
-`use MODULE as NAME-` and the one long `unfolding` line, from the definitions of words, account, layout, map_store and model.
+Run at the repository's root after a change of the definitions. It rewrites the lines `use MODULE as NAME-` and the one long
+`unfolding` line, from the definitions of words, account, layout, map_store and model.
 """
 import re
 
+CASES = 'crates/model/specs/Cases.antt'
 MODEL = ['Reference', 'Content', 'View', 'Kept', 'Rules', 'Calls', 'Slots', 'Replies', 'Model', 'Refusals', 'Terms', 'Step',
          'Opening', 'History', 'Demand3', 'Callsheet']
 
 
 def unfoldable(path):
     with open(path) as f:
-        return [m.group(1) for m in re.finditer(r'^\s*unfoldable pub (\S+)', f.read(), re.M)]
+        return [m.group(1) for m in re.finditer(r'^\s*unfoldable pub (?!use )(\S+)', f.read(), re.M)]
 
 
-def everything(prefix):
-    """`prefix`: where model's modules are found from the file, `Rattle.model.specs` from outside of model."""
+def everything():
     modules = [('crates/words/specs/Word.antt', 'Rattle.words.specs.Word', 'Words'),
                ('crates/map_store/specs/Store.antt', 'Rattle.map_store.specs.Store', 'Maps'),
                ('crates/account/specs/Account.antt', 'Rattle.account.specs.Account', 'Account-'),
                ('crates/layout/specs/Layout.antt', 'Rattle.layout.specs.Layout', 'Layout-')]
-    modules += [('crates/model/specs/%s.antt' % m, '%s.%s' % (prefix, m), m + '-') for m in MODEL]
+    modules += [('crates/model/specs/%s.antt' % m, 'Rattle.model.specs.%s' % m, m + '-') for m in MODEL]
     uses = ['use %s as %s' % (module, name) for _, module, name in modules]
     names = ['%s.%s' % (name, n) for path, _, name in modules for n in unfoldable(path)]
     return uses, names
 
 
-def rewrite(path, prefix):
-    uses, names = everything(prefix)
+def rewrite(path):
+    uses, names = everything()
     with open(path) as f:
         lines = f.read().split('\n')
     known = set(uses)
@@ -43,5 +43,4 @@ def rewrite(path, prefix):
 
 
 if __name__ == '__main__':
-    rewrite('crates/model/specs/Cases.antt', 'Rattle.model.specs')
-    rewrite('crates/trials/specs/Trial.antt', 'Rattle.model.specs')
+    rewrite(CASES)
