@@ -1,19 +1,20 @@
 // Allocation of every kind but maps and iterators.
+ghost use mathlib.Core.List.{[]};
 ghost use mathlib.Core.Path.{_≡_};
 ghost use Prim.Native.Nat.{_+_, _*_, _/_, _≤_};
 ghost use lib.ListN.{length, replicate, take};
 ghost use Rattle.account.specs.Account.{saturated};
+ghost use Rattle.slots.specs.Header.{withRegion};
 ghost use Rattle.model.specs.Calls as Calls;
 ghost use Rattle.heap.specs.State.{state};
 ghost use Rattle.heap.specs.Good.{Good};
 ghost use Rattle.heap.specs.Promise.{Performs};
 ghost use Rattle.heap.specs.Answers.{madeIs};
-ghost use Rattle.heap.specs.Placing.{newWord};
-ghost use Rattle.heap.specs.declared.Reading.the-variants.{Is};
+ghost use Rattle.heap.specs.Placing.{Object, RegionObject};
 ghost use Rattle.heap.specs.Kinds.{framesIn};
 ghost use Rattle.allocation.specs.Coroutines.{Begins, Seated, callOf, refusedWith};
 ghost use Rattle.allocation.specs.Frames.{copied, putFrame};
-ghost use Rattle.allocation.specs.Making.{MadePlain, MadeWords, Placeable, Prepared, headerOf, placed, withNext};
+ghost use Rattle.allocation.specs.Making.{Finishes, MadePlain, MadeWords, Placeable, Prepared, Scalarless, headerOf, withNext};
 use heap::Done;
 use heap::Heap;
 use heap::Made;
@@ -71,7 +72,7 @@ pub fn new_plain(
     header: Header,
     bytes: u64,
 ) -> Made
-    requires { ⌜ Good (state heap (now slots) (now scalars) (now list) (now directory) (now cells)) ⌝ }
+    requires { ⌜ Good (state heap (now slots) (now scalars) (now list) (now directory) (now cells)) × Scalarless (withRegion header 0 0 0) [] ⌝ }
     ensures { λ r. ⌜ MadePlain (state heap (now (slots .entry)) (now (scalars .entry)) (now (list .entry)) (now (directory .entry)) (now (cells .entry))) (state heap (now (slots .entry)) (now (scalars .entry)) (now (list .entry)) (now (directory .entry)) (now (cells .entry))) header bytes (r .answer) (state (r .heap) (now (slots .exit)) (now (scalars .entry)) (now (list .entry)) (now (directory .entry)) (now (cells .entry))) ⌝ }
 {
     match heap::judge_new(heap, cells.len() as u64, bytes, 0) {
@@ -97,7 +98,7 @@ pub fn new_with_scalars(
     more: Scalars,
     bytes: u64,
 ) -> Made
-    requires { ⌜ Good (state heap (now slots) (now scalars) (now list) (now directory) (now cells)) ⌝ }
+    requires { ⌜ Good (state heap (now slots) (now scalars) (now list) (now directory) (now cells)) × Object (withRegion header 0 0 0) [] more ⌝ }
     ensures { λ r. ⌜ MadePlain (state heap (now (slots .entry)) (now (scalars .entry)) (now (list .entry)) (now (directory .entry)) (now (cells .entry))) (withNext (state heap (now (slots .entry)) (now (scalars .entry)) (now (list .entry)) (now (directory .entry)) (now (cells .entry))) more) header bytes (r .answer) (state (r .heap) (now (slots .exit)) (now (scalars .exit)) (now (list .entry)) (now (directory .entry)) (now (cells .entry))) ⌝ }
 {
     match heap::judge_new(heap, cells.len() as u64, bytes, 0) {
@@ -278,8 +279,8 @@ fn finish(
     header: Header,
     bytes: u64,
 ) -> Made
-    requires { ⌜ Placeable (state heap (now slots) (now scalars) (now list) (now directory) (now cells)) bytes (header .size) ⌝ }
-    ensures { λ r. ⌜ (state (r .heap) (now (slots .exit)) (now (scalars .entry)) (now (list .entry)) (now (directory .exit)) (now (cells .entry)) ≡ placed (state heap (now (slots .entry)) (now (scalars .entry)) (now (list .entry)) (now (directory .entry)) (now (cells .entry))) header bytes) × (r .answer ≡ Is (newWord (state heap (now (slots .entry)) (now (scalars .entry)) (now (list .entry)) (now (directory .entry)) (now (cells .entry))) (header .kind))) ⌝ }
+    requires { ⌜ Placeable (state heap (now slots) (now scalars) (now list) (now directory) (now cells)) bytes (header .size) × RegionObject (state heap (now slots) (now scalars) (now list) (now directory) (now cells)) header ⌝ }
+    ensures { λ r. ⌜ Finishes (state heap (now (slots .entry)) (now (scalars .entry)) (now (list .entry)) (now (directory .entry)) (now (cells .entry))) header bytes (r .answer) (state (r .heap) (now (slots .exit)) (now (scalars .entry)) (now (list .entry)) (now (directory .exit)) (now (cells .entry))) ⌝ }
 {
     if header.size == 0 {
         return heap::place_plain(heap, slots, scalars, list, directory, cells, header, bytes);
@@ -300,8 +301,8 @@ fn new_words(
     mode: u64,
     words: &[u64],
 ) -> Made
-    requires { ⌜ Good (state heap (now slots) (now scalars) (now list) (now directory) (now cells)) ⌝ }
-    ensures { λ r. ⌜ MadeWords (state heap (now (slots .entry)) (now (scalars .entry)) (now (list .entry)) (now (directory .entry)) (now (cells .entry))) (headerOf kind value mode (length (now (words .entry))) (length (now (words .entry)))) (saturated (heap .weights .slot + 8 * length (now (words .entry)))) (now (words .entry)) (r .answer) (state (r .heap) (now (slots .exit)) (now (scalars .entry)) (now (list .entry)) (now (directory .exit)) (now (cells .exit))) ⌝ }
+    requires { ⌜ Good (state heap (now slots) (now scalars) (now list) (now directory) (now cells)) × Scalarless (headerOf kind value mode (length (now words)) (length (now words))) (now words) ⌝ }
+    ensures { λ r. ⌜ MadeWords (state heap (now (slots .entry)) (now (scalars .entry)) (now (list .entry)) (now (directory .entry)) (now (cells .entry))) (headerOf kind value mode (length (now (words .entry))) (length (now (words .entry)))) (saturated (heap .weights .slot + 8 * length (now (words .entry)))) (now (words .entry)) (r .answer) (state (r .heap) (now (slots .exit)) (now (scalars .entry)) (now (list .entry)) (now (directory .exit)) (now (cells .exit))) × Good (state (r .heap) (now (slots .exit)) (now (scalars .entry)) (now (list .entry)) (now (directory .exit)) (now (cells .exit))) ⌝ }
 {
     let weights = heap.weights;
     let n = words.len() as u64;
@@ -393,7 +394,7 @@ fn new_items(
     n: u64,
 ) -> Made
     requires { ⌜ Good (state heap (now slots) (now scalars) (now list) (now directory) (now cells)) ⌝ }
-    ensures { λ r. ⌜ MadeWords (state heap (now (slots .entry)) (now (scalars .entry)) (now (list .entry)) (now (directory .entry)) (now (cells .entry))) (headerOf 6 0 t n n) (saturated (heap .weights .slot + 8 * n)) (replicate n 0) (r .answer) (state (r .heap) (now (slots .exit)) (now (scalars .entry)) (now (list .entry)) (now (directory .exit)) (now (cells .exit))) ⌝ }
+    ensures { λ r. ⌜ MadeWords (state heap (now (slots .entry)) (now (scalars .entry)) (now (list .entry)) (now (directory .entry)) (now (cells .entry))) (headerOf 6 0 t n n) (saturated (heap .weights .slot + 8 * n)) (replicate n 0) (r .answer) (state (r .heap) (now (slots .exit)) (now (scalars .entry)) (now (list .entry)) (now (directory .exit)) (now (cells .exit))) × Good (state (r .heap) (now (slots .exit)) (now (scalars .entry)) (now (list .entry)) (now (directory .exit)) (now (cells .exit))) ⌝ }
 {
     let weights = heap.weights;
     let bytes = word_bytes(weights.slot, n);
@@ -530,7 +531,7 @@ fn place_coroutine(
     size: u64,
     bytes: u64,
 ) -> Made
-    requires { ⌜ Placeable (state heap (now slots) (now scalars) (now list) (now directory) (now cells)) bytes size × (length (now registers) ≤ size) ⌝ }
+    requires { ⌜ Placeable (state heap (now slots) (now scalars) (now list) (now directory) (now cells)) bytes size × (size ≡ length (now registers) + 4 * frames) ⌝ }
     ensures { λ r. ⌜ Seated (state heap (now (slots .entry)) (now (scalars .entry)) (now (list .entry)) (now (directory .entry)) (now (cells .entry))) k (now (registers .entry)) frames size bytes (r .answer) (state (r .heap) (now (slots .exit)) (now (scalars .exit)) (now (list .entry)) (now (directory .exit)) (now (cells .exit))) ⌝ }
 {
     let x = Scalars {

@@ -10,8 +10,7 @@ ghost use Rattle.heap.specs.State.{state};
 ghost use Rattle.heap.specs.Good.{Good, coroutineOf};
 ghost use Rattle.slots.specs.FreeList.{takenSlot};
 ghost use Rattle.heap.specs.declared.Done.the-variants.{Accepted};
-ghost use Rattle.heap.specs.declared.Reading.the-variants.{Is};
-ghost use Rattle.heap.specs.Placing.{Roomy, Seatable, Seats, flagOf, judgedNew, newWord, placedPlain, placedRegion};
+ghost use Rattle.heap.specs.Placing.{PlacesPlain, PlacesRegion, PlainObject, RegionObject, Roomy, Seatable, Seats, flagOf, judgedNew};
 ghost use Rattle.model.specs.Opening.{between, sizesFit};
 ghost use Rattle.heap.specs.Opens.{Opens, beside, cleared, newHeap, openingOf, roomFor, weightsFit};
 ghost use Rattle.heap.specs.Promise.{Performs, Reads};
@@ -479,7 +478,7 @@ fn seat(heap: Heap, slots: &mut [u64], list: &[u64], header: Header, bytes: u64)
     }
 }
 
-// A new object without cells, once judged: kind, value, mode and len are the header's.
+// An object without cells, once judged. The caller has written its scalars.
 pub fn place_plain(
     heap: Heap,
     slots: &mut [u64],
@@ -490,8 +489,8 @@ pub fn place_plain(
     header: Header,
     bytes: u64,
 ) -> Made
-    requires { ⌜ Good (state heap (now slots) (now scalars) (now list) (now directory) (now cells)) × (judgedNew heap (length (now cells)) bytes 0 ≡ Accepted) ⌝ }
-    ensures { λ r. ⌜ (state (r .heap) (now (slots .exit)) (now (scalars .entry)) (now (list .entry)) (now (directory .entry)) (now (cells .entry)) ≡ placedPlain (state heap (now (slots .entry)) (now (scalars .entry)) (now (list .entry)) (now (directory .entry)) (now (cells .entry))) header bytes) × (r .answer ≡ Is (newWord (state heap (now (slots .entry)) (now (scalars .entry)) (now (list .entry)) (now (directory .entry)) (now (cells .entry))) (header .kind))) ⌝ }
+    requires { ⌜ Good (state heap (now slots) (now scalars) (now list) (now directory) (now cells)) × (judgedNew heap (length (now cells)) bytes 0 ≡ Accepted) × PlainObject (state heap (now slots) (now scalars) (now list) (now directory) (now cells)) header ⌝ }
+    ensures { λ r. ⌜ PlacesPlain (state heap (now (slots .entry)) (now (scalars .entry)) (now (list .entry)) (now (directory .entry)) (now (cells .entry))) header bytes (r .answer) (state (r .heap) (now (slots .exit)) (now (scalars .entry)) (now (list .entry)) (now (directory .entry)) (now (cells .entry))) ⌝ }
 {
     let mut new = header;
     new.size = 0;
@@ -500,7 +499,8 @@ pub fn place_plain(
     seat(heap, slots, list, new, bytes)
 }
 
-// A new object whose region, `header.size` cells at the top, the caller has filled.
+// An object with a region, once judged. The caller has written its scalars, and `header.size` cells
+// at the top.
 pub fn place_region(
     heap: Heap,
     slots: &mut [u64],
@@ -511,8 +511,8 @@ pub fn place_region(
     header: Header,
     bytes: u64,
 ) -> Made
-    requires { ⌜ Good (state heap (now slots) (now scalars) (now list) (now directory) (now cells)) × (judgedNew heap (length (now cells)) bytes (header .size) ≡ Accepted) × (heap .top + header .size ≤ length (now cells)) × (heap .entries < heap .size * 2) ⌝ }
-    ensures { λ r. ⌜ (state (r .heap) (now (slots .exit)) (now (scalars .entry)) (now (list .entry)) (now (directory .exit)) (now (cells .entry)) ≡ placedRegion (state heap (now (slots .entry)) (now (scalars .entry)) (now (list .entry)) (now (directory .entry)) (now (cells .entry))) header bytes) × (r .answer ≡ Is (newWord (state heap (now (slots .entry)) (now (scalars .entry)) (now (list .entry)) (now (directory .entry)) (now (cells .entry))) (header .kind))) ⌝ }
+    requires { ⌜ Good (state heap (now slots) (now scalars) (now list) (now directory) (now cells)) × (judgedNew heap (length (now cells)) bytes (header .size) ≡ Accepted) × (heap .top + header .size ≤ length (now cells)) × (heap .entries < heap .size * 2) × RegionObject (state heap (now slots) (now scalars) (now list) (now directory) (now cells)) header ⌝ }
+    ensures { λ r. ⌜ PlacesRegion (state heap (now (slots .entry)) (now (scalars .entry)) (now (list .entry)) (now (directory .entry)) (now (cells .entry))) header bytes (r .answer) (state (r .heap) (now (slots .exit)) (now (scalars .entry)) (now (list .entry)) (now (directory .exit)) (now (cells .entry))) ⌝ }
 {
     let at = heap.entries as usize;
     directory[at] = next_slot(list, heap.fresh, heap.free);

@@ -1,9 +1,10 @@
 -- `allocation::new_items` meets its contract. Assumes nothing.
 use mathlib.Core.Path.{_∙_}
 use Rattle.cells.proofs.MoveLaws.{filled-region}
-use Rattle.allocation.proofs.MakeLaws.{ready-cells}
-use Rattle.allocation.proofs.RegionLaws.{above-filled, words-made, words-refused}
+use Rattle.allocation.proofs.MakeLaws.{region-ready}
+use Rattle.allocation.proofs.RegionLaws.{above-filled, words-made, words-object, words-refused}
 use lib.ListN.{replicate}
+use native.Mathlib.Omega.{arith}
 use borrow.Author.Needs.{needs}
 use Rattle.allocation.proofs.new_items.Statement.{statement}
 use Rattle.allocation.proofs.new_items.Tie as tie
@@ -27,7 +28,16 @@ header-requires : tie.Need-header-requires
 header-requires c κs = search needs
 
 finish-requires : tie.Need-finish-requires
-finish-requires c κs = rw (c .before .before .before .header .ensures) (ready-cells ((c .before .before .before .before .before .before .before .before .before .before .before .before .before .before .before .before .before .prepare .ensures) .accepted ((c .before .before .before .before .before .before .before .before .enum-told .given) .1)) (above-filled (c .before .before .before .before .before .before .fill .ensures)) .placeable)
+finish-requires c κs =
+    let at-header : tie.After-header = search in
+    let at-fill : tie.After-fill = search in
+    let at-told : tie.After-enum-told = search in
+    let at-prepare : tie.After-prepare = search in
+    let start : tie.Start = search in
+    let y = (at-prepare .prepare .ensures) .accepted ((at-told .enum-told .given) .1) in
+    rw (at-header .header .ensures)
+    (region-ready y (above-filled (at-fill .fill .ensures)) (filled-region (at-fill .fill .ensures) (y .placeable .region))
+    (words-object 6 0 (start .args .t) (start .args .n) _ (omega arith) (omega arith) (λ z. absurd (omega (arith, z)))))
 
 same-length : tie.Need-same-length
 same-length c = search needs

@@ -15,10 +15,18 @@ enum-told : tie.Need-enum-told
 enum-told c = search needs
 
 place-plain-requires : tie.Need-place-plain-requires
-place-plain-requires c κs = ((c .before .before .before .before .before .before .before .before .before .pre), sym (c .before .before .before .judge-new .ensures) ∙ (c .before .enum-told .given) .1)
+place-plain-requires c κs =
+    let at-told : tie.After-enum-told = search in
+    let at-judge : tie.After-judge-new = search in
+    let start : tie.Start = search in
+    ((start .pre) .0, sym (at-judge .judge-new .ensures) ∙ (at-told .enum-told .given) .1, (start .pre) .1 _)
 
 returns : tie.Need-returns
-returns c = plain-refused (c .before .before .before .judge-new .ensures) ((c .before .q .given) .1)
+returns c =
+    let at-q : tie.After-q = search in
+    let at-judge : tie.After-judge-new = search in
+    let start : tie.Start = search in
+    plain-refused ((start .pre) .0) (at-judge .judge-new .ensures) ((at-q .q .given) .1)
 
 same-length : tie.Need-same-length
 same-length c = search needs

@@ -1,5 +1,5 @@
 -- `allocation::new_with_scalars` meets its contract. Assumes nothing.
-use Rattle.allocation.proofs.MakeLaws.{next-fits, placeable-scalars, plain-after, plain-refused, ready-self}
+use Rattle.allocation.proofs.MakeLaws.{next-fits, next-more, placeable-scalars, plain-after, plain-refused, ready-self}
 use mathlib.Core.Path.{_∙_, sym}
 use borrow.Author.Needs.{needs}
 use Rattle.allocation.proofs.new_with_scalars.Statement.{statement}
@@ -18,13 +18,31 @@ next-slot-requires : tie.Need-next-slot-requires
 next-slot-requires c κs = search needs
 
 write-scalars-requires : tie.Need-write-scalars-requires
-write-scalars-requires c κs = rw (c .before .next-slot .ensures) (next-fits (ready-self (c .before .before .before .before .before .before .before .before .before .before .pre) (sym (c .before .before .before .before .judge-new .ensures) ∙ (c .before .before .enum-told .given) .1) .placeable))
+write-scalars-requires c κs =
+    let at-next : tie.After-next-slot = search in
+    let at-told : tie.After-enum-told = search in
+    let at-judge : tie.After-judge-new = search in
+    let start : tie.Start = search in
+    rw (at-next .next-slot .ensures) (next-fits (ready-self ((start .pre) .0) (sym (at-judge .judge-new .ensures) ∙ (at-told .enum-told .given) .1) .placeable))
 
 place-plain-requires : tie.Need-place-plain-requires
-place-plain-requires c κs = (rw ((c .before .before .before .before .write-scalars .ensures), (c .before .before .before .before .before .before .next-slot .ensures)) (placeable-scalars (ready-self (c .before .before .before .before .before .before .before .before .before .before .before .before .before .before .before .pre) (sym (c .before .before .before .before .before .before .before .before .before .judge-new .ensures) ∙ (c .before .before .before .before .before .before .before .enum-told .given) .1) .placeable) (c .before .before .before .before .before .before .before .before .before .before .before .before .before .before .before .args .more) .good), sym (c .before .before .before .before .before .before .before .before .before .judge-new .ensures) ∙ (c .before .before .before .before .before .before .before .enum-told .given) .1)
+place-plain-requires c κs =
+    let at-write : tie.After-write-scalars = search in
+    let at-next : tie.After-next-slot = search in
+    let at-told : tie.After-enum-told = search in
+    let at-judge : tie.After-judge-new = search in
+    let start : tie.Start = search in
+    let judged = sym (at-judge .judge-new .ensures) ∙ (at-told .enum-told .given) .1 in
+    let y = ready-self ((start .pre) .0) judged .placeable in
+    let more = start .args .more in
+    rw (at-write .write-scalars .ensures, at-next .next-slot .ensures) (placeable-scalars y more .good, judged, rw (next-more y more) ((start .pre) .1))
 
 returns : tie.Need-returns
-returns c = plain-refused (c .before .before .before .judge-new .ensures) ((c .before .q .given) .1)
+returns c =
+    let at-q : tie.After-q = search in
+    let at-judge : tie.After-judge-new = search in
+    let start : tie.Start = search in
+    plain-refused ((start .pre) .0) (at-judge .judge-new .ensures) ((at-q .q .given) .1)
 
 same-length : tie.Need-same-length
 same-length c = search needs

@@ -1,6 +1,6 @@
 -- `allocation::new_words` meets its contract. Assumes nothing.
 use mathlib.Core.Path.{_∙_}
-use Rattle.allocation.proofs.MakeLaws.{ready-cells}
+use Rattle.allocation.proofs.MakeLaws.{region-ready}
 use Rattle.allocation.proofs.RegionLaws.{above-copied, words-made, words-refused}
 use borrow.Author.Needs.{needs}
 use Rattle.allocation.proofs.new_words.Statement.{statement}
@@ -25,7 +25,14 @@ header-requires : tie.Need-header-requires
 header-requires c κs = search needs
 
 finish-requires : tie.Need-finish-requires
-finish-requires c κs = rw (c .before .before .before .header .ensures) (ready-cells ((c .before .before .before .before .before .before .before .before .before .before .before .before .before .before .before .before .before .prepare .ensures) .accepted ((c .before .before .before .before .before .before .before .before .enum-told .given) .1)) (above-copied (c .before .before .before .before .before .before .copy-words .ensures)) .placeable)
+finish-requires c κs =
+    let at-header : tie.After-header = search in
+    let at-copy : tie.After-copy-words = search in
+    let at-told : tie.After-enum-told = search in
+    let at-prepare : tie.After-prepare = search in
+    let start : tie.Start = search in
+    let w = at-copy .copy-words .ensures in
+    rw (at-header .header .ensures) (region-ready ((at-prepare .prepare .ensures) .accepted ((at-told .enum-told .given) .1)) (above-copied w) (w .inside) ((start .pre) .1))
 
 same-length : tie.Need-same-length
 same-length c = search needs

@@ -20,7 +20,11 @@ make-room-requires : tie.Need-make-room-requires
 make-room-requires c κs = ((c .before .before .before .before .before .before .before .before .before .before .before .before .pre), room-left (c .before .before .before .before .before .before .before .before .before .before .before .before .args .bytes) (c .before .before .before .before .before .before .before .before .before .before .before .before .args .size) (c .before .before .before .before .before .before .before .before .before .before .before .before .pre) (c .before .before .before .before .before .before .judge-new .ensures) ((c .before .before .before .before .enum-told .given) .1))
 
 returns-2 : tie.Need-returns-2
-returns-2 c = prepared-refused (c .before .before .before .judge-new .ensures) ((c .before .q .given) .1)
+returns-2 c =
+    let at-q : tie.After-q = search in
+    let at-judge : tie.After-judge-new = search in
+    let start : tie.Start = search in
+    prepared-refused (start .pre) (at-judge .judge-new .ensures) ((at-q .q .given) .1)
 
 same-length : tie.Need-same-length
 same-length c = search needs

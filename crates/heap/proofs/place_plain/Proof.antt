@@ -11,7 +11,10 @@ same-length : tie.Need-same-length
 same-length c = search needs
 
 returns : tie.Need-returns
-returns c = plain-state _ (c .before .before .before .before .before .before .before .before .before .args .header) (c .before .before .seat .ensures)
+returns c =
+    let at-seat : tie.After-seat = search in
+    let start : tie.Start = search in
+    plain-state (start .args .header) ((start .pre) .0) ((start .pre) .1) ((start .pre) .2) (at-seat .seat .ensures)
 
 pub place-plain-spec : {M : Type 1} → statement M
 place-plain-spec = tie.close (tie.spec seat-requires same-length returns)

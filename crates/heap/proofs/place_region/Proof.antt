@@ -1,5 +1,4 @@
 -- `heap::place_region` meets its contract. Assumes nothing.
-use Rattle.heap.specs.State.{state}
 use native.Mathlib.Omega.{arith}
 use Rattle.heap.proofs.SeatLaws.{region-state, seatable}
 use borrow.Author.Needs.{needs}
@@ -31,7 +30,11 @@ same-length-2 : tie.Need-same-length-2
 same-length-2 c = search needs
 
 returns : tie.Need-returns
-returns c = region-state (state (c .before .before .before .before .before .before .before .before .before .before .before .before .before .before .args .heap) (c .before .before .before .before .before .before .before .before .before .before .before .before .before .before .args .slots .now) (c .before .before .before .before .before .before .before .before .before .before .before .before .before .before .args .scalars .now) (c .before .before .before .before .before .before .before .before .before .before .before .before .before .before .args .list .now) (c .before .before .before .before .before .before .before .before .before .before .before .before .before .before .args .directory .now) (c .before .before .before .before .before .before .before .before .before .before .before .before .before .before .args .cells .now)) (c .before .before .before .before .before .before .before .before .before .before .before .before .before .before .args .header) (c .before .before .before .before .before .before .seat .ensures) (c .before .before .before .before .before .before .before .before .next-slot .ensures)
+returns c =
+    let at-seat : tie.After-seat = search in
+    let at-next : tie.After-next-slot = search in
+    let start : tie.Start = search in
+    region-state (start .args .header) ((start .pre) .0) ((start .pre) .1) ((start .pre) .2) ((start .pre) .3) ((start .pre) .4) (at-seat .seat .ensures) (at-next .next-slot .ensures)
 
 pub place-region-spec : {M : Type 1} → statement M
 place-region-spec =
