@@ -186,11 +186,11 @@ coroutine-object k words n region = record {
   fit = new-good (coroutineHeader k words (words + 4 * n)) region (scalarsFor k n) (omega arith) (omega arith) (λ z. absurd (omega (arith, z))) (λ l z. absurd (omega (arith, z))) (λ l z ne. absurd (omega (arith, z))) (λ z. absurd (omega (arith, z))) (λ z. absurd (omega (arith, z))) (λ z. refl);
 }
 
-pub seated-object : {m : State} {bytes size frames : ℕ} {x′ c′ ws : List ℕ} {i : ℕ} (k : Coroutine) → Placeable m bytes size → size ≡ length ws + 4 * frames → i ≡ nextSlot m → x′ ≡ setScalars (m .scalars) i (scalarsFor k frames) →
-    RegionObject (withCells (withScalars m x′) c′) (coroutineHeader k (length ws) size)
-seated-object {m} {frames = frames} {c′ = c′} {ws = ws} k y size-is n w =
+pub seated-object : {m : State} {bytes size : ℕ} {x′ : List ℕ} {i : ℕ} (k : Coroutine) (words frames : ℕ) (c′ : List ℕ) → Placeable m bytes size → size ≡ words + 4 * frames → i ≡ nextSlot m → x′ ≡ setScalars (m .scalars) i (scalarsFor k frames) →
+    RegionObject (withCells (withScalars m x′) c′) (coroutineHeader k words size)
+seated-object {m} k words frames c′ y size-is n w =
     let x = scalarsFor k frames in
-    rw (seated-scalars m x n w, next-more y x, size-is) (coroutine-object k (length ws) frames (nextRegion (withCells m c′) (length ws + 4 * frames)))
+    rw (seated-scalars m x n w, next-more y x, size-is) (coroutine-object k words frames (nextRegion (withCells m c′) (words + 4 * frames)))
 
 pub seated : {m a : State} {k : Coroutine} {frames size bytes : ℕ} {x′ c′ ws : List ℕ} {i : ℕ} {h : Header} {r : Reading} → i ≡ nextSlot m → x′ ≡ setScalars (m .scalars) i (scalarsFor k frames) → Copied ws (m .cells) c′ (m .heap .top) →
     h ≡ coroutineHeader k (length ws) size → a .cells ≡ c′ → Finishes (withCells (withScalars m x′) c′) h bytes r a → Seated m k ws frames size bytes r a

@@ -264,7 +264,7 @@ ready-cells {c′ = c′} y o =
 
 -- ---- finished
 
-module _ {m a : State} {h : Header} {bytes : ℕ} {r : Reading} where
+module _ {m a : State} (h : Header) {bytes : ℕ} (y : Placeable m bytes (h .size)) {r : Reading} where
   pub finished-plain : h .size ≡ 0 → PlacesPlain m h bytes r a → Finishes m h bytes r a
   finished-plain z p = record { after = rw (eqb-yes (h .size) 0 z) (p .after); answer = p .answer; good = p .good }
 

@@ -21,7 +21,8 @@ returns : tie.Need-returns
 returns c =
     let at-place : tie.After-place-plain = search in
     let at-then : tie.Then1 = search in
-    finished-plain (at-then .if1 .taken) (at-place .place-plain .ensures)
+    let start : tie.Start = search in
+    finished-plain (start .args .header) ((start .pre) .0) (at-then .if1 .taken) (at-place .place-plain .ensures)
 
 place-region-requires : tie.Need-place-region-requires
 place-region-requires c κs =
@@ -40,7 +41,8 @@ returns-2 : tie.Need-returns-2
 returns-2 c =
     let at-place : tie.After-place-region = search in
     let at-else : tie.Else1 = search in
-    finished-region (at-else .if1 .left) (at-place .place-region .ensures)
+    let start : tie.Start = search in
+    finished-region (start .args .header) ((start .pre) .0) (at-else .if1 .left) (at-place .place-region .ensures)
 
 pub finish-spec : {M : Type 1} → statement M
 finish-spec =

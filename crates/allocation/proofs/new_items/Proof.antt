@@ -33,6 +33,8 @@ finish-requires c κs =
     let at-fill : tie.After-fill = search in
     let at-told : tie.After-enum-told = search in
     let at-prepare : tie.After-prepare = search in
+    let at-bytes : tie.After-word-bytes = search in
+    let on-entry : tie.After-slice-known2 = search in
     let start : tie.Start = search in
     let y = (at-prepare .prepare .ensures) .accepted ((at-told .enum-told .given) .1) in
     rw (at-header .header .ensures)

@@ -30,6 +30,8 @@ finish-requires c κs =
     let at-copy : tie.After-copy-words = search in
     let at-told : tie.After-enum-told = search in
     let at-prepare : tie.After-prepare = search in
+    let at-bytes : tie.After-word-bytes = search in
+    let on-entry : tie.After-slice-known2 = search in
     let start : tie.Start = search in
     let w = at-copy .copy-words .ensures in
     rw (at-header .header .ensures) (region-ready ((at-prepare .prepare .ensures) .accepted ((at-told .enum-told .given) .1)) (above-copied w) (w .inside) ((start .pre) .1))

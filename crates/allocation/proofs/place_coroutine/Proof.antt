@@ -30,13 +30,13 @@ finish-requires c κs =
     let k = start .args .k in
     let next = at-next .next-slot .ensures in
     let w = at-write .write-scalars .ensures in
-    rw (at-header .header .ensures) (seated-placeable (scalarsFor k (start .args .frames)) y next w (at-copy .copy-words .ensures), seated-object k y ((start .pre) .1) next w)
+    rw (at-header .header .ensures) (seated-placeable (scalarsFor k (start .args .frames)) y next w (at-copy .copy-words .ensures), seated-object k _ (start .args .frames) _ y ((start .pre) .1) next w)
 
 same-length : tie.Need-same-length
 same-length c = search needs
 
 same-length-2 : tie.Need-same-length-2
-same-length-2 c = search needs
+same-length-2 c = let at-scalars : tie.After-scalars = search in at-scalars .scalars .given
 
 same-length-3 : tie.Need-same-length-3
 same-length-3 c = search needs
