@@ -17,6 +17,7 @@ use heap::Reading;
 use heap::Refusal;
 use heap::Signed;
 use heap::Test;
+use heap::lookup;
 use model::Frame;
 
 // The kinds: rows of document 01's table.
@@ -60,7 +61,7 @@ fn read_value(slots: &[u64], fresh: u64, w: u64, kind: u64) -> Reading
     requires { ⌜ (fresh ≤ 65536) × (fresh * 8 ≤ length (now slots)) ⌝ }
     ensures { λ r. ⌜ ReadsHeader (λ h. h .value) (now (slots .entry)) fresh w kind r ⌝ }
 {
-    match heap::locate(slots, fresh, w, kind) {
+    match lookup::locate(slots, fresh, w, kind) {
         Located::Refused(q) => Reading::Refused(q),
         Located::At(i) => {
             let h = slots::read_header(slots, i);
@@ -73,7 +74,7 @@ fn read_mode(slots: &[u64], fresh: u64, w: u64, kind: u64) -> Reading
     requires { ⌜ (fresh ≤ 65536) × (fresh * 8 ≤ length (now slots)) ⌝ }
     ensures { λ r. ⌜ ReadsHeader (λ h. h .mode) (now (slots .entry)) fresh w kind r ⌝ }
 {
-    match heap::locate(slots, fresh, w, kind) {
+    match lookup::locate(slots, fresh, w, kind) {
         Located::Refused(q) => Reading::Refused(q),
         Located::At(i) => {
             let h = slots::read_header(slots, i);
@@ -86,7 +87,7 @@ fn read_len(slots: &[u64], fresh: u64, w: u64, kind: u64) -> Reading
     requires { ⌜ (fresh ≤ 65536) × (fresh * 8 ≤ length (now slots)) ⌝ }
     ensures { λ r. ⌜ ReadsHeader (λ h. h .len) (now (slots .entry)) fresh w kind r ⌝ }
 {
-    match heap::locate(slots, fresh, w, kind) {
+    match lookup::locate(slots, fresh, w, kind) {
         Located::Refused(q) => Reading::Refused(q),
         Located::At(i) => {
             let h = slots::read_header(slots, i);
@@ -99,7 +100,7 @@ fn read_size(slots: &[u64], fresh: u64, w: u64, kind: u64) -> Reading
     requires { ⌜ (fresh ≤ 65536) × (fresh * 8 ≤ length (now slots)) ⌝ }
     ensures { λ r. ⌜ ReadsHeader (λ h. h .size) (now (slots .entry)) fresh w kind r ⌝ }
 {
-    match heap::locate(slots, fresh, w, kind) {
+    match lookup::locate(slots, fresh, w, kind) {
         Located::Refused(q) => Reading::Refused(q),
         Located::At(i) => {
             let h = slots::read_header(slots, i);
@@ -113,7 +114,7 @@ fn read_scalar(slots: &[u64], scalars: &[u64], fresh: u64, w: u64, k: usize) -> 
     requires { ⌜ (fresh ≤ 65536) × (fresh * 8 ≤ length (now slots)) × (fresh * 8 ≤ length (now scalars)) × (k < 8) ⌝ }
     ensures { λ r. ⌜ ReadsScalar (now (slots .entry)) (now (scalars .entry)) fresh w k r ⌝ }
 {
-    match heap::locate(slots, fresh, w, COROUTINE) {
+    match lookup::locate(slots, fresh, w, COROUTINE) {
         Located::Refused(q) => Reading::Refused(q),
         Located::At(i) => Reading::Is(scalars[i * 8 + k]),
     }
@@ -124,7 +125,7 @@ fn read_word(slots: &[u64], cells: &[u64], fresh: u64, w: u64, kind: u64, i: u64
     requires { ⌜ WordsFit (now slots) (now cells) fresh kind ⌝ }
     ensures { λ r. ⌜ ReadsWord (now (slots .entry)) (now (cells .entry)) fresh w kind i r ⌝ }
 {
-    match heap::locate(slots, fresh, w, kind) {
+    match lookup::locate(slots, fresh, w, kind) {
         Located::Refused(q) => Reading::Refused(q),
         Located::At(at) => {
             let h = slots::read_header(slots, at);
@@ -142,7 +143,7 @@ fn store_value(slots: &mut [u64], fresh: u64, w: u64, kind: u64, v: u64) -> Done
     requires { ⌜ (fresh ≤ 65536) × (fresh * 8 ≤ length (now slots)) ⌝ }
     ensures { λ r. ⌜ StoresValue (now (slots .entry)) fresh w kind v r (now (slots .exit)) ⌝ }
 {
-    match heap::locate(slots, fresh, w, kind) {
+    match lookup::locate(slots, fresh, w, kind) {
         Located::Refused(q) => Done::Refused(q),
         Located::At(i) => {
             slots::set_value(slots, i, v);
@@ -156,7 +157,7 @@ fn store_scalar(slots: &[u64], scalars: &mut [u64], fresh: u64, w: u64, k: usize
     requires { ⌜ (fresh ≤ 65536) × (fresh * 8 ≤ length (now slots)) × (fresh * 8 ≤ length (now scalars)) × (k < 8) ⌝ }
     ensures { λ r. ⌜ StoresScalar (now (slots .entry)) (now (scalars .entry)) fresh w k v r (now (scalars .exit)) ⌝ }
 {
-    match heap::locate(slots, fresh, w, COROUTINE) {
+    match lookup::locate(slots, fresh, w, COROUTINE) {
         Located::Refused(q) => Done::Refused(q),
         Located::At(i) => {
             scalars[i * 8 + k] = v;
@@ -178,7 +179,7 @@ fn store_word(
     requires { ⌜ WordsFit (now slots) (now cells) fresh kind ⌝ }
     ensures { λ r. ⌜ StoresWord (now (slots .entry)) (now (cells .entry)) fresh w kind i v r (now (cells .exit)) ⌝ }
 {
-    match heap::locate(slots, fresh, w, kind) {
+    match lookup::locate(slots, fresh, w, kind) {
         Located::Refused(q) => Done::Refused(q),
         Located::At(at) => {
             let h = slots::read_header(slots, at);
@@ -283,7 +284,7 @@ pub fn read_integer(
     requires { ⌜ Good (state heap (now slots) (now scalars) (now list) (now directory) (now cells)) ⌝ }
     ensures { λ r. ⌜ Reads (Calls.read-integer w) (state heap (now (slots .entry)) (now (scalars .entry)) (now (list .entry)) (now (directory .entry)) (now (cells .entry))) (signedIs r) ⌝ }
 {
-    match heap::locate(slots, heap.fresh, w, INTEGER) {
+    match lookup::locate(slots, heap.fresh, w, INTEGER) {
         Located::Refused(q) => Signed::Refused(q),
         Located::At(i) => {
             let h = slots::read_header(slots, i);
@@ -321,7 +322,7 @@ pub fn read_string(
     requires { ⌜ Good (state heap (now slots) (now scalars) (now list) (now directory) (now cells)) ⌝ }
     ensures { λ r. ⌜ Reads (Calls.read-string w (now (buffer .entry))) (state heap (now (slots .entry)) (now (scalars .entry)) (now (list .entry)) (now (directory .entry)) (now (cells .entry))) (lentReading r (now (buffer .exit))) ⌝ }
 {
-    match heap::locate(slots, heap.fresh, w, STRING) {
+    match lookup::locate(slots, heap.fresh, w, STRING) {
         Located::Refused(q) => Reading::Refused(q),
         Located::At(i) => {
             let h = slots::read_header(slots, i);
@@ -457,7 +458,7 @@ pub fn is_import(
     requires { ⌜ Good (state heap (now slots) (now scalars) (now list) (now directory) (now cells)) ⌝ }
     ensures { λ r. ⌜ Reads (Calls.is-import w) (state heap (now (slots .entry)) (now (scalars .entry)) (now (list .entry)) (now (directory .entry)) (now (cells .entry))) (testIs r) ⌝ }
 {
-    match heap::locate(slots, heap.fresh, w, FUNCTION) {
+    match lookup::locate(slots, heap.fresh, w, FUNCTION) {
         Located::Refused(q) => Test::Refused(q),
         Located::At(i) => {
             let h = slots::read_header(slots, i);
@@ -615,7 +616,7 @@ pub fn coroutine_finalized(
     requires { ⌜ Good (state heap (now slots) (now scalars) (now list) (now directory) (now cells)) ⌝ }
     ensures { λ r. ⌜ Reads (Calls.coroutine-finalized w) (state heap (now (slots .entry)) (now (scalars .entry)) (now (list .entry)) (now (directory .entry)) (now (cells .entry))) (testIs r) ⌝ }
 {
-    match heap::locate(slots, heap.fresh, w, COROUTINE) {
+    match lookup::locate(slots, heap.fresh, w, COROUTINE) {
         Located::Refused(q) => Test::Refused(q),
         Located::At(i) => {
             let x = slots::read_scalars(scalars, i);
@@ -668,7 +669,7 @@ pub fn read_frame(
     requires { ⌜ Good (state heap (now slots) (now scalars) (now list) (now directory) (now cells)) ⌝ }
     ensures { λ r. ⌜ Reads (Calls.read-frame w i) (state heap (now (slots .entry)) (now (scalars .entry)) (now (list .entry)) (now (directory .entry)) (now (cells .entry))) (frameIs r) ⌝ }
 {
-    match heap::locate(slots, heap.fresh, w, COROUTINE) {
+    match lookup::locate(slots, heap.fresh, w, COROUTINE) {
         Located::Refused(q) => FrameRead::Refused(q),
         Located::At(at) => {
             let x = slots::read_scalars(scalars, at);
@@ -877,7 +878,7 @@ pub fn set_state(
     if 4 < s {
         return Done::Refused(Refusal::BadType);
     }
-    match heap::locate(slots, heap.fresh, w, COROUTINE) {
+    match lookup::locate(slots, heap.fresh, w, COROUTINE) {
         Located::Refused(q) => Done::Refused(q),
         Located::At(i) => {
             slots::set_mode(slots, i, s);
@@ -901,7 +902,7 @@ pub fn store_item(
     requires { ⌜ Good (state heap (now slots) (now scalars) (now list) (now directory) (now cells)) ⌝ }
     ensures { λ r. ⌜ Performs (Calls.store-item w i v) (state heap (now (slots .entry)) (now (scalars .entry)) (now (list .entry)) (now (directory .entry)) (now (cells .entry))) (doneIs r) (state heap (now (slots .entry)) (now (scalars .entry)) (now (list .entry)) (now (directory .entry)) (now (cells .exit))) ⌝ }
 {
-    match heap::locate(slots, heap.fresh, w, ARRAY) {
+    match lookup::locate(slots, heap.fresh, w, ARRAY) {
         Located::Refused(q) => Done::Refused(q),
         Located::At(at) => {
             let account = heap.account;

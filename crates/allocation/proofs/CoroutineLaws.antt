@@ -32,13 +32,13 @@ use Rattle.heap.specs.Kinds.{frameAt, framesIn}
 use Rattle.heap.specs.State.{State, moreOf, withCells, withScalars}
 use Rattle.heap.specs.Good.{Good}
 use Rattle.heap.specs.Promise.{Performs}
-use Rattle.heap.specs.Placing.{judgedNew, newRaw, newWord, nextRegion, nextSlot, placedPlain, placedRegion}
+use Rattle.heap.specs.Placing.{Object, RegionObject, judgedNew, newRaw, nextRegion, nextSlot, placedPlain, placedRegion}
 use Rattle.heap.proofs.KindLaws.{content-coroutine, length-framesIn, room-none}
 use Rattle.heap.proofs.DoesLaws.{first-none, first-passes, first-refuses}
 use Rattle.allocation.specs.declared.Begun.{Begun}
 use Rattle.allocation.specs.declared.Coroutine.{Coroutine}
 use Rattle.allocation.specs.Coroutines.{Begins, FramesPut, Seated, callOf, coroutineHeader, refusedWith, scalarsFor}
-use Rattle.allocation.specs.Making.{Placeable, Prepared, Ready, judgedIn, placed, withNext}
+use Rattle.allocation.specs.Making.{Finishes, Placeable, Prepared, Ready, judgedIn, placed, withNext}
 use Rattle.allocation.proofs.MakeLaws.{Above, Makes, Means, above-4, makes, new-good, next-more, placeable-scalars, ready-cells, ready-scalars, refused-own, region-made, region-refused, within-4}
 use Rattle.allocation.proofs.RegionLaws.{above-copied, saturated-sum}
 
@@ -88,6 +88,7 @@ prepared-exact {t} {bytes = bytes} n g e p = record {
   judged = p .judged ∙ ap (judgedIn t bytes) e ∙ judged-exact bytes n g;
   refused = p .refused;
   accepted = λ f. rw (accepted-size n e p f) at (p .accepted f);
+  good = p .good;
 }
 
 -- ---- frames in cells
@@ -178,12 +179,26 @@ seated-placeable {m} x y n w o =
     let z = ready-cells (record { placeable = placeable-scalars y x; model = λ l. refl }) (above-copied o) in
     rw (seated-scalars m x n w) (z .placeable)
 
+-- whatever its frames are
+pub coroutine-object : (k : Coroutine) (words n : ℕ) (region : List ℕ) → Object (coroutineHeader k words (words + 4 * n)) region (scalarsFor k n)
+coroutine-object k words n region = record {
+  some-kind = λ z. absurd (omega (arith, z));
+  fit = new-good (coroutineHeader k words (words + 4 * n)) region (scalarsFor k n) (omega arith) (omega arith) (λ z. absurd (omega (arith, z))) (λ l z. absurd (omega (arith, z))) (λ l z ne. absurd (omega (arith, z))) (λ z. absurd (omega (arith, z))) (λ z. absurd (omega (arith, z))) (λ z. refl);
+}
+
+pub seated-object : {m : State} {bytes size : ℕ} {x′ : List ℕ} {i : ℕ} (k : Coroutine) (words frames : ℕ) (c′ : List ℕ) → Placeable m bytes size → size ≡ words + 4 * frames → i ≡ nextSlot m → x′ ≡ setScalars (m .scalars) i (scalarsFor k frames) →
+    RegionObject (withCells (withScalars m x′) c′) (coroutineHeader k words size)
+seated-object {m} k words frames c′ y size-is n w =
+    let x = scalarsFor k frames in
+    rw (seated-scalars m x n w, next-more y x, size-is) (coroutine-object k words frames (nextRegion (withCells m c′) (words + 4 * frames)))
+
 pub seated : {m a : State} {k : Coroutine} {frames size bytes : ℕ} {x′ c′ ws : List ℕ} {i : ℕ} {h : Header} {r : Reading} → i ≡ nextSlot m → x′ ≡ setScalars (m .scalars) i (scalarsFor k frames) → Copied ws (m .cells) c′ (m .heap .top) →
-    h ≡ coroutineHeader k (length ws) size → a .cells ≡ c′ → (a ≡ placed (withCells (withScalars m x′) c′) h bytes) × (r ≡ Read.Is (newWord m (h .kind))) → Seated m k ws frames size bytes r a
+    h ≡ coroutineHeader k (length ws) size → a .cells ≡ c′ → Finishes (withCells (withScalars m x′) c′) h bytes r a → Seated m k ws frames size bytes r a
 seated {m} {a} {k} {frames} {bytes = bytes} {c′ = c′} {h = h} n w o h-is c-is done = record {
   registers = rw c-is o;
-  after = done .0 ∙ ap (λ (x : List ℕ). placed (withCells (withScalars m x) c′) h bytes) (seated-scalars m (scalarsFor k frames) n w) ∙ rw (h-is, c-is);
-  answer = done .1 ∙ rw h-is;
+  after = done .after ∙ ap (λ (x : List ℕ). placed (withCells (withScalars m x) c′) h bytes) (seated-scalars m (scalarsFor k frames) n w) ∙ rw (h-is, c-is);
+  answer = done .answer ∙ rw h-is;
+  good = done .good;
 }
 
 -- the cells may be written after the placing
@@ -226,8 +241,7 @@ module _ {t m a : State} {k : Coroutine} {ws : List ℕ} {n bytes : ℕ} {r : Re
   coroutine-means fs region x e registers frames =
       rw e
       record {
-        some-kind = λ z. absurd (omega (arith, z));
-        fit = new-good header region (scalarsFor k n) (omega arith) (omega arith) (λ z. absurd (omega (arith, z))) (λ l z. absurd (omega (arith, z))) (λ l z ne. absurd (omega (arith, z))) (λ z. absurd (omega (arith, z))) (λ z. absurd (omega (arith, z))) (λ z. refl);
+        object = coroutine-object k (length ws) n region;
         content = content-coroutine (newRaw 65536 header region) (scalarsFor k n) refl ∙ rw (registers, frames);
         room = room-none (newRaw 65536 header region) (λ z. absurd (omega (arith, z))) (λ z. absurd (omega (arith, z)));
       }

@@ -1,6 +1,7 @@
 -- A new object of any kind: refused, or placed. Assumes nothing.
 use Prim.Native.Nat.{ℕ, _+_, _*_, _/_, _≤_, _<_}
 use mathlib.Core.Path.{_≡_, refl, ap, sym, _∙_}
+use mathlib.Core.Logic.{_≢_}
 use mathlib.Core.List.{List, []}
 use mathlib.Core.Option.{some}
 use native.Mathlib.Omega.{arith}
@@ -35,12 +36,12 @@ use Rattle.heap.specs.Kinds.{contentOf, mapOf, roomOf}
 use Rattle.heap.specs.State.{State, modelOf, moreOf, withCells, withScalars}
 use Rattle.heap.specs.Good.{Good, SlotGood}
 use Rattle.heap.specs.Promise.{Performs}
-use Rattle.heap.specs.Placing.{Roomy, judgedNew, newRaw, newWord, nextRegion, nextSlot, placedPlain, placedRegion}
+use Rattle.heap.specs.Placing.{Object, PlacesPlain, PlacesRegion, RegionObject, Roomy, judgedNew, newRaw, newWord, nextRegion, nextSlot, placedPlain}
 use Rattle.heap.proofs.PlaceLaws.{does-plain, does-region, judged-accepted, judged-refused}
 use Rattle.heap.proofs.DoesLaws.{does-own}
 use Rattle.heap.proofs.IdleLaws.{Alike, alike-cells, alike-good, alike-model, alike-scalars, does-from, next-below, next-empty}
 use Rattle.heap.proofs.StepLaws.{own-scalars}
-use Rattle.allocation.specs.Making.{MadePlain, Placeable, Prepared, Ready, answerBy, judgedIn, placed, stateBy, withNext}
+use Rattle.allocation.specs.Making.{Finishes, MadePlain, Placeable, Prepared, Ready, Scalarless, answerBy, judgedIn, placed, stateBy, withNext}
 
 -- ---- the call
 
@@ -87,8 +88,7 @@ within-4 n b h = rw (leb-yes n b h)
 -- ---- what a header and its cells mean
 
 pub record Means (h : Header) (region : List ℕ) (x : Scalars) (c : Content) (s : Room) : Type 0 where
-  pub some-kind : h .kind ≡ 0 → ⊥
-  pub fit : SlotGood (newRaw 65536 h region) x
+  pub object : Object h region x
   pub content : contentOf (newRaw 65536 h region) x ≡ c
   pub room : roomOf (newRaw 65536 h region) ≡ s
 
@@ -115,10 +115,13 @@ new-good h region x lo hi string plain words map iterator coroutine = record {
 }
 
 -- without cells the region is empty
+pub object-empty : {h : Header} {x : Scalars} (l : List ℕ) → h .size ≡ 0 → Object h (take (h .size) l) x → Object (withRegion h 0 0 0) [] x
+object-empty {h} l e o = let q : newRaw 65536 h (take (h .size) l) ≡ newRaw 65536 (withRegion h 0 0 0) [] = rw e in record { some-kind = o .some-kind; fit = rw q at (o .fit) }
+
 means-empty : {h : Header} {x : Scalars} {c : Content} {s : Room} (l : List ℕ) → h .size ≡ 0 → Means h (take (h .size) l) x c s → Means (withRegion h 0 0 0) [] x c s
 means-empty {h} {x} {c} {s} l e p =
     let q : newRaw 65536 h (take (h .size) l) ≡ newRaw 65536 (withRegion h 0 0 0) [] = rw e in
-    record { some-kind = p .some-kind; fit = rw q at (p .fit); content = rw q at (p .content); room = rw q at (p .room) }
+    record { object = object-empty l e (p .object); content = rw q at (p .content); room = rw q at (p .room) }
 
 -- ---- the object refused or placed
 
@@ -134,7 +137,7 @@ module _ {t : State} (g : Good t) {k : Call} {c : Content} {s : Room} (w : Makes
         let j : judgedIn m bytes 0 ≡ Do.Accepted = rw e at (y .placeable .judged) in
         rw (eqb-yes (h .size) 0 e)
         (does-from (y .model l) refl
-        (does-plain (y .placeable .good) h bytes (p .some-kind) l k (rw (y .model l) (w .charge-is l)) bytes-are (rw (y .model l) (w .own l)) (rw (y .model l) (w .lent-after l)) (judged-accepted m bytes 0 j) (p .fit)
+        (does-plain (y .placeable .good) h bytes (p .object .some-kind) l k (rw (y .model l) (w .charge-is l)) bytes-are (rw (y .model l) (w .own l)) (rw (y .model l) (w .lent-after l)) (judged-accepted m bytes 0 j) (p .object .fit)
         (rw (y .model l) (w .effect-is l)) (p .content) (p .room)))
 
     placed-region : Means h (nextRegion m (h .size)) (moreOf m (nextSlot m)) c s → (h .size ≡ 0 → ⊥) → Performs k t (madeIs (Read.Is (newWord m (h .kind)))) (placed m h bytes)
@@ -143,8 +146,8 @@ module _ {t : State} (g : Good t) {k : Call} {c : Content} {s : Room} (w : Makes
         let z = y .placeable in
         rw (eqb-no (h .size) 0 ne)
         (does-from (y .model l) refl
-        (does-region (z .good) h bytes (p .some-kind) l k (rw (y .model l) (w .charge-is l)) bytes-are (rw (y .model l) (w .own l)) (rw (y .model l) (w .lent-after l)) (judged-accepted m bytes (h .size) (z .judged)) (z .region) (z .entry ne)
-        (p .fit) (rw (y .model l) (w .effect-is l)) (p .content) (p .room)))
+        (does-region (z .good) h bytes (p .object .some-kind) l k (rw (y .model l) (w .charge-is l)) bytes-are (rw (y .model l) (w .own l)) (rw (y .model l) (w .lent-after l)) (judged-accepted m bytes (h .size) (z .judged)) (z .region) (z .entry ne)
+        (p .object .fit) (rw (y .model l) (w .effect-is l)) (p .content) (p .room)))
 
     pub new-placed : Means h (nextRegion m (h .size)) (moreOf m (nextSlot m)) c s → Performs k t (madeIs (Read.Is (newWord m (h .kind)))) (placed m h bytes)
     new-placed p =
@@ -186,20 +189,20 @@ next-more {m} y x = scalarsAt-same (m .scalars) (nextSlot m) x (next-fits y .1)
 
 -- the scalars written first
 pub plain-after : {t : State} {h : Header} {bytes : ℕ} {d : Done} {r : Reading} {a : State} {x′ : List ℕ} {i : ℕ} (x : Scalars) → d ≡ judgedIn t bytes 0 → d ≡ Do.Accepted → i ≡ nextSlot t → x′ ≡ setScalars (t .scalars) i x →
-    (a ≡ placedPlain (withScalars t x′) h bytes) × (r ≡ Read.Is (newWord t (h .kind))) → MadePlain t (withNext t x) h bytes r a
+    PlacesPlain (withScalars t x′) h bytes r a → MadePlain t (withNext t x) h bytes r a
 unfolding answerBy stateBy
 plain-after {t} {h} {bytes} x e f n w p =
     let q = w ∙ ap (λ (i : ℕ). setScalars (t .scalars) i x) n in
-    record { answer = rw (← e, f) (p .1); after = rw (← e, f) (p .0 ∙ ap (λ (x′ : List ℕ). placedPlain (withScalars t x′) h bytes) q) }
+    record { answer = rw (← e, f) (p .answer); after = rw (← e, f) (p .after ∙ ap (λ (x′ : List ℕ). placedPlain (withScalars t x′) h bytes) q); good = p .good }
 
 module _ {t m : State} {h : Header} {bytes : ℕ} where
-  pub plain-refused : {d : Done} {q : Refusal} → d ≡ judgedIn t bytes 0 → d ≡ Do.Refused q → MadePlain t m h bytes (Read.Refused q) t
+  pub plain-refused : {d : Done} {q : Refusal} → Good t → d ≡ judgedIn t bytes 0 → d ≡ Do.Refused q → MadePlain t m h bytes (Read.Refused q) t
   unfolding answerBy stateBy
-  plain-refused e f = record { answer = rw (← e, f); after = rw (← e, f) }
+  plain-refused g e f = record { answer = rw (← e, f); after = rw (← e, f); good = g }
 
-  pub plain-accepted : {d : Done} {r : Reading} {a : State} → d ≡ judgedIn t bytes 0 → d ≡ Do.Accepted → (a ≡ placedPlain m h bytes) × (r ≡ Read.Is (newWord m (h .kind))) → MadePlain t m h bytes r a
+  pub plain-accepted : {d : Done} {r : Reading} {a : State} → d ≡ judgedIn t bytes 0 → d ≡ Do.Accepted → PlacesPlain m h bytes r a → MadePlain t m h bytes r a
   unfolding answerBy stateBy
-  plain-accepted e f p = record { answer = rw (← e, f) (p .1); after = rw (← e, f) (p .0) }
+  plain-accepted e f p = record { answer = rw (← e, f) (p .answer); after = rw (← e, f) (p .after); good = p .good }
 
   module _ {r : Reading} {a : State} (g : Good t) {k : Call} {c : Content} {s : Room} (w : Makes t k c s) (bytes-are : bytes ≡ saturated (weightOf t c s)) (none : cellsOf c s ≡ 0)
       (y : judgedIn t bytes 0 ≡ Do.Accepted → Ready t m bytes 0) (p : judgedIn t bytes 0 ≡ Do.Accepted → Means (withRegion h 0 0 0) [] (moreOf m (nextSlot m)) c s) (d : MadePlain t m h bytes r a) where
@@ -219,11 +222,11 @@ scalars-performs x g w bytes-are none p d =
 
 -- ---- prepared
 
-pub prepared-refused : {t : State} {bytes size : ℕ} {d : Done} {q : Refusal} → d ≡ judgedIn t bytes size → d ≡ Do.Refused q → Prepared t bytes size (Do.Refused q) t
-prepared-refused e f = record { judged = sym f ∙ e; refused = λ q x. refl; accepted = λ x. absurd (let z : _≡_ {A = ℕ} 0 1 = cc in omega arith) }
+pub prepared-refused : {t : State} {bytes size : ℕ} {d : Done} {q : Refusal} → Good t → d ≡ judgedIn t bytes size → d ≡ Do.Refused q → Prepared t bytes size (Do.Refused q) t
+prepared-refused g e f = record { judged = sym f ∙ e; refused = λ q x. refl; accepted = λ x. absurd (let z : _≡_ {A = ℕ} 0 1 = cc in omega arith); good = g }
 
 pub prepared-none : {t : State} {bytes size : ℕ} {d : Done} → Good t → d ≡ judgedIn t bytes size → d ≡ Do.Accepted → size ≡ 0 → Prepared t bytes size Do.Accepted t
-prepared-none {t} {bytes} g e f z = record { judged = sym f ∙ e; refused = λ q x. refl; accepted = λ x. rw z (ready-self g (rw z at (sym e ∙ f))) }
+prepared-none {t} {bytes} g e f z = record { judged = sym f ∙ e; refused = λ q x. refl; accepted = λ x. rw z (ready-self g (rw z at (sym e ∙ f))); good = g }
 
 pub room-left : {t : State} (bytes size : ℕ) {d : Done} → Good t → d ≡ judgedIn t bytes size → d ≡ Do.Accepted → t .heap .taken + size ≤ length (t .cells)
 room-left {t} bytes size g e f = judged-accepted t bytes size (sym e ∙ f) .room
@@ -241,6 +244,7 @@ prepared-room {t} {m} {bytes} {size} e f y = record {
     placeable = record { good = y .good; judged = judged-roomy bytes size y ∙ sym e ∙ f; region = y .region; entry = λ ne. y .entry };
     model = y .model;
   };
+  good = y .good;
 }
 
 -- ---- cells written above the top
@@ -260,12 +264,17 @@ ready-cells {c′ = c′} y o =
 
 -- ---- finished
 
-module _ {m a : State} (h : Header) {bytes : ℕ} (y : Placeable m bytes (h .size)) where
-  pub finished-plain : h .size ≡ 0 → a ≡ placedPlain m h bytes → a ≡ placed m h bytes
-  finished-plain z e = rw (eqb-yes (h .size) 0 z) e
+module _ {m a : State} (h : Header) {bytes : ℕ} (y : Placeable m bytes (h .size)) {r : Reading} where
+  pub finished-plain : h .size ≡ 0 → PlacesPlain m h bytes r a → Finishes m h bytes r a
+  finished-plain z p = record { after = rw (eqb-yes (h .size) 0 z) (p .after); answer = p .answer; good = p .good }
 
-  pub finished-region : (h .size ≡ 0 → ⊥) → a ≡ placedRegion m h bytes → a ≡ placed m h bytes
-  finished-region ne e = rw (eqb-no (h .size) 0 ne) e
+  pub finished-region : h .size ≢ 0 → PlacesRegion m h bytes r a → Finishes m h bytes r a
+  finished-region ne p = record { after = rw (eqb-no (h .size) 0 ne) (p .after); answer = p .answer; good = p .good }
+
+-- the cells ws written above the top are an object's
+pub region-ready : {t m : State} {bytes : ℕ} {h : Header} {ws c′ : List ℕ} → Ready t m bytes (h .size) → Above (m .cells) c′ (m .heap .top) → nextRegion (withCells m c′) (h .size) ≡ ws → Scalarless h ws →
+    Placeable (withCells m c′) bytes (h .size) × RegionObject (withCells m c′) h
+region-ready y o w s = (ready-cells y o .placeable, rw w (s _))
 
 module _ {t : State} (g : Good t) {k : Call} {c : Content} {s : Room} (w : Makes t k c s) {bytes : ℕ} (bytes-are : bytes ≡ saturated (weightOf t c s)) where
   pub region-refused : {m : State} {size : ℕ} {d : Done} {q : Refusal} → cellsOf c s ≡ size → Prepared t bytes size d m → d ≡ Do.Refused q → Performs k t (madeIs (Read.Refused q)) m

@@ -9,6 +9,7 @@ use mir.Val.{SFits}
 use Rattle.account.specs.Account.{saturated}
 use Rattle.account.specs.AccountLaws.{saturated-below}
 use Rattle.words.specs.Word.{bitsOfSigned}
+use Rattle.slots.specs.Header.{withRegion}
 use Rattle.slots.specs.declared.Header.{Header}
 use Rattle.slots.specs.declared.Scalars.{Scalars}
 use Rattle.words.proofs.Signed64.{signed-bits}
@@ -28,7 +29,7 @@ use Rattle.heap.specs.Promise.{Performs}
 use Rattle.heap.specs.Placing.{newRaw}
 use Rattle.heap.proofs.KindLaws.{content-box, content-cell, content-error, content-integer, room-none}
 use Rattle.heap.proofs.DoesLaws.{first-none, first-passes, first-refuses}
-use Rattle.allocation.specs.Making.{MadePlain, headerOf}
+use Rattle.allocation.specs.Making.{MadePlain, Scalarless, headerOf}
 use Rattle.allocation.proofs.MakeLaws.{Makes, above-4, makes, new-good, plain-performs, ready-self, refused-own, within-4}
 
 -- the charge is the slot weight alone
@@ -37,15 +38,23 @@ slot-weight {t} g =
     let e : t .heap .weights .slot + 0 ≡ t .heap .weights .slot = omega arith in
     sym (rw e (saturated-below (t .heap .weights .slot) (omega (arith, g .weights .slot .1))))
 
+-- one of the four, whatever its words are
+pub four-object : {h : Header} (kind value mode : ℕ) → 2 ≤ kind → kind ≤ 5 → h ≡ headerOf kind value mode 0 0 → Scalarless (withRegion h 0 0 0) []
+four-object kind value mode lo hi h-is x =
+    rw h-is
+    record {
+      some-kind = λ z. absurd (omega (arith, z));
+      fit = new-good (headerOf kind value mode 0 0) [] x (omega arith) (omega arith) (λ z. absurd (omega (arith, z))) (λ l z. refl) (λ l z ne. absurd (omega (arith, l))) (λ z. absurd (omega (arith, z))) (λ z. absurd (omega (arith, z))) (λ z. absurd (omega (arith, z)));
+    }
+
 module _ {t a : State} {h : Header} {r : Reading} (g : Good t) where
-  -- one of the four, whatever its words are
   four : {k : Call} {c : Content} (kind value mode : ℕ) → Makes t k c noRoom → 2 ≤ kind → kind ≤ 5 → h ≡ headerOf kind value mode 0 0 →
       ((x : Scalars) → contentOf (newRaw 65536 (headerOf kind value mode 0 0) []) x ≡ c) → bytesOf (t .heap .weights) c noRoom ≡ 0 → cellsOf c noRoom ≡ 0 →
       MadePlain t t h (t .heap .weights .slot) r a → Performs k t (madeIs r) a
   four {c = c} kind value mode w lo hi h-is content bytes cells d =
       let d′ : MadePlain t t (headerOf kind value mode 0 0) (t .heap .weights .slot) r a = rw h-is at d in
       plain-performs g w (rw bytes (slot-weight g)) cells (λ e. ready-self g e)
-      (λ e. record { some-kind = λ z. absurd (omega (arith, z)); fit = new-good (headerOf kind value mode 0 0) [] _ (omega arith) (omega arith) (λ z. absurd (omega (arith, z))) (λ l z. refl) (λ l z ne. absurd (omega (arith, l))) (λ z. absurd (omega (arith, z))) (λ z. absurd (omega (arith, z))) (λ z. absurd (omega (arith, z))); content = content _; room = room-none _ (λ z. absurd (omega (arith, z))) (λ z. absurd (omega (arith, z))) })
+      (λ e. record { object = four-object kind value mode lo hi refl _; content = content _; room = room-none _ (λ z. absurd (omega (arith, z))) (λ z. absurd (omega (arith, z))) })
       d′
 
   pub integer-made : {z : ℤ} {v : ℕ} → SFits w64 z → v ≡ bitsOfSigned z → h ≡ headerOf 2 v 0 0 0 → MadePlain t t h (t .heap .weights .slot) r a → Performs (Calls.new-integer z) t (madeIs r) a

@@ -1,7 +1,7 @@
 -- Strings, arrays, structs and functions: objects with cells. Assumes nothing.
 use Prim.Native.Nat.{ℕ, _+_, _*_, _/_, _%_, _≤_, _<_}
 use mathlib.Core.Path.{_≡_, refl, ap, subst, sym, _∙_}
-use mathlib.Core.Logic.{inl}
+use mathlib.Core.Logic.{_≢_, inl}
 use mathlib.Core.Bool.{Bool, true, false}
 use mathlib.Core.List.{List, [], _∷_}
 use native.Mathlib.Omega.{arith}
@@ -35,10 +35,10 @@ use Rattle.heap.specs.Kinds.{contentOf, roomOf, yes}
 use Rattle.heap.specs.State.{State, moreOf, withCells}
 use Rattle.heap.specs.Good.{Good}
 use Rattle.heap.specs.Promise.{Performs}
-use Rattle.heap.specs.Placing.{newRaw, newWord, nextRegion, nextSlot}
+use Rattle.heap.specs.Placing.{newRaw, nextRegion, nextSlot}
 use Rattle.heap.proofs.KindLaws.{content-array, content-function, content-string, content-struct, room-array, room-none}
 use Rattle.heap.proofs.DoesLaws.{first-none, first-passes, first-refuses}
-use Rattle.allocation.specs.Making.{MadeWords, Prepared, headerOf, made-in, placed, turned-back}
+use Rattle.allocation.specs.Making.{Finishes, MadeWords, Prepared, Scalarless, headerOf, made-in, turned-back}
 use Rattle.allocation.proofs.MakeLaws.{Above, Makes, Means, above-4, makes, new-good, new-refused, ready-cells, refused-own, region-made, region-refused, weightOf, within-4}
 
 -- ---- bytes
@@ -65,21 +65,26 @@ above-written w = record { len = w .len; below = λ q l. w .outside q (inl l) }
 -- ---- objects of words
 
 module _ {t m : State} {bytes n : ℕ} {d : Done} (p : Prepared t bytes n d m) where
-  pub words-refused : {q : Refusal} (kind value mode : ℕ) (ws : List ℕ) {b : ℕ} → d ≡ Do.Refused q → bytes ≡ b → MadeWords t (headerOf kind value mode n n) b ws (Read.Refused q) m
-  words-refused {q} kind value mode ws f e = rw (← e) (turned-back q (sym (p .judged) ∙ f) refl (p .refused q f))
+  pub words-refused : {q : Refusal} (kind value mode : ℕ) (ws : List ℕ) {b : ℕ} → d ≡ Do.Refused q → bytes ≡ b → MadeWords t (headerOf kind value mode n n) b ws (Read.Refused q) m × Good m
+  words-refused {q} kind value mode ws f e = (rw (← e) (turned-back q (sym (p .judged) ∙ f) refl (p .refused q f)), p .good)
 
   -- the words ws written above the top
   pub words-made : {h : Header} {b : ℕ} {ws c′ : List ℕ} {r : Reading} {a : State} (kind value mode : ℕ) → d ≡ Do.Accepted → Above (m .cells) c′ (m .heap .top) → nextRegion (withCells m c′) n ≡ ws →
-      h ≡ headerOf kind value mode n n → bytes ≡ b → (a ≡ placed (withCells m c′) h bytes) × (r ≡ Read.Is (newWord (withCells m c′) (h .kind))) → MadeWords t (headerOf kind value mode n n) b ws r a
+      h ≡ headerOf kind value mode n n → bytes ≡ b → Finishes (withCells m c′) h bytes r a → MadeWords t (headerOf kind value mode n n) b ws r a × Good a
   words-made {c′ = c′} kind value mode f o w h-is e done =
-      rw (← e) (made-in (withCells m c′) (ready-cells (p .accepted f) o) w (done .1 ∙ rw h-is) (done .0 ∙ rw h-is))
+      (rw (← e) (made-in (withCells m c′) (ready-cells (p .accepted f) o) w (done .answer ∙ rw h-is) (done .after ∙ rw h-is)), done .good)
 
 -- one of the three rows, whatever its words are
+pub words-object : (kind value mode n : ℕ) (ws : List ℕ) → 6 ≤ kind → kind ≤ 9 → kind ≢ 7 → Scalarless (headerOf kind value mode n n) ws
+words-object kind value mode n ws lo hi no-map x = record {
+  some-kind = λ z. absurd (omega (arith, z));
+  fit = new-good (headerOf kind value mode n n) ws x (omega arith) (omega arith) (λ z. absurd (omega (arith, z))) (λ l z. absurd (omega (arith, z))) (λ l z ne. refl) (λ z. absurd (no-map z)) (λ z. absurd (omega (arith, z))) (λ z. absurd (omega (arith, z)));
+}
+
 words-mean : (kind value mode n : ℕ) (ws : List ℕ) {c : Content} {s : Room} (x : Scalars) → 6 ≤ kind → kind ≤ 9 → (kind ≡ 7 → ⊥) → contentOf (newRaw 65536 (headerOf kind value mode n n) ws) x ≡ c →
     roomOf (newRaw 65536 (headerOf kind value mode n n) ws) ≡ s → Means (headerOf kind value mode n n) ws x c s
 words-mean kind value mode n ws x lo hi no-map content room = record {
-  some-kind = λ z. absurd (omega (arith, z));
-  fit = new-good (headerOf kind value mode n n) ws x (omega arith) (omega arith) (λ z. absurd (omega (arith, z))) (λ l z. absurd (omega (arith, z))) (λ l z ne. refl) (λ z. absurd (no-map z)) (λ z. absurd (omega (arith, z))) (λ z. absurd (omega (arith, z)));
+  object = words-object kind value mode n ws lo hi no-map x;
   content = content;
   room = room;
 }
@@ -151,6 +156,12 @@ array-length-refused g ty z le e =
 pub string-size : (n : ℕ) → n / 8 + (n % 8 + 7) / 8 ≡ stringCells n
 string-size n = omega arith
 
+pub string-object : {n size : ℕ} (region : List ℕ) → size ≡ stringCells n → Scalarless (headerOf 1 0 0 n size) region
+string-object {n} {size} region size-is x = record {
+  some-kind = λ z. absurd (omega (arith, z));
+  fit = new-good (headerOf 1 0 0 n size) region x (omega arith) (omega arith) (λ z. size-is) (λ l z. absurd (omega (arith, l))) (λ l z ne. absurd (omega (arith, l))) (λ z. absurd (omega (arith, z))) (λ z. absurd (omega (arith, z))) (λ z. absurd (omega (arith, z)));
+}
+
 module _ {t m : State} {bs : List ℕ} {bytes size : ℕ} {d : Done} (g : Good t) (bytes-are : bytes ≡ saturated (t .heap .weights .slot + length bs)) (size-is : size ≡ stringCells (length bs)) (p : Prepared t bytes size d m) where
   string-makes : Makes t (Calls.new-string bs) (string bs) noRoom
   unfolding effect terms
@@ -161,7 +172,7 @@ module _ {t m : State} {bs : List ℕ} {bytes size : ℕ} {d : Done} (g : Good t
   string-refused f = region-refused g string-makes bytes-are (sym size-is) p f
 
   pub string-made : {a : State} {h : Header} {r : Reading} {c′ : List ℕ} → d ≡ Do.Accepted → Written bs (m .cells) c′ (m .heap .top) → h ≡ headerOf 1 0 0 (length bs) size →
-      (a ≡ placed (withCells m c′) h bytes) × (r ≡ Read.Is (newWord (withCells m c′) (h .kind))) → Performs (Calls.new-string bs) t (madeIs r) a
+      Finishes (withCells m c′) h bytes r a → Performs (Calls.new-string bs) t (madeIs r) a
   unfolding bytesOf cellsOf
   string-made {c′ = c′} f w h-is done =
       let h = headerOf 1 0 0 (length bs) size in
@@ -170,9 +181,8 @@ module _ {t m : State} {bs : List ℕ} {bytes size : ℕ} {d : Done} (g : Good t
       let content : contentOf (newRaw 65536 h region) x ≡ string bs = content-string (newRaw 65536 h region) x refl ∙ rw size-is (ap string (w .inside)) in
       region-made g string-makes bytes-are h (ready-cells (p .accepted f) (above-written w))
       record {
-        some-kind = λ z. absurd (omega (arith, z));
-        fit = new-good h region x (omega arith) (omega arith) (λ z. size-is) (λ l z. absurd (omega (arith, l))) (λ l z ne. absurd (omega (arith, l))) (λ z. absurd (omega (arith, z))) (λ z. absurd (omega (arith, z))) (λ z. absurd (omega (arith, z)));
+        object = string-object region size-is x;
         content = content;
         room = room-none (newRaw 65536 h region) (λ z. absurd (omega (arith, z))) (λ z. absurd (omega (arith, z)));
       }
-      (done .0 ∙ rw h-is, done .1 ∙ rw h-is)
+      (done .after ∙ rw h-is, done .answer ∙ rw h-is)

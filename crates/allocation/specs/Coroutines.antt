@@ -17,6 +17,7 @@ use Rattle.heap.specs.declared.Reading.the-variants as Read
 use Rattle.heap.specs.Answers.{madeIs}
 use Rattle.heap.specs.Kinds.{framesIn}
 use Rattle.heap.specs.State.{State, withCells}
+use Rattle.heap.specs.Good.{Good}
 use Rattle.heap.specs.Promise.{Performs}
 use Rattle.heap.specs.Placing.{newWord}
 use Rattle.allocation.specs.declared.Begun.{Begun}
@@ -38,6 +39,7 @@ pub record Seated (m : State) (k : Coroutine) (ws : List ℕ) (n size bytes : �
   pub registers : Copied ws (m .cells) (a .cells) (m .heap .top)
   pub after : a ≡ placed (withCells (withNext m (scalarsFor k n)) (a .cells)) (coroutineHeader k (length ws) size) bytes
   pub answer : r ≡ Read.Is (newWord m 11)
+  pub good : Good a
 
 abbrev pub refusedWith : Heap → Refusal → Begun
 refusedWith h q = record { made = record { heap = h; answer = Read.Refused q }; at = 0; count = 0 }

@@ -16,11 +16,15 @@ use Rattle.heap.specs.declared.Reading.{Reading}
 use Rattle.heap.specs.declared.Reading.the-variants as Read
 use Rattle.heap.specs.State.{State, modelOf, withScalars}
 use Rattle.heap.specs.Good.{Good}
-use Rattle.heap.specs.Placing.{judgedNew, newWord, nextRegion, nextSlot, placedPlain, placedRegion}
+use Rattle.heap.specs.Placing.{Object, Places, judgedNew, newWord, nextRegion, nextSlot, placedPlain, placedRegion}
 
 -- half, start and entry come with the placing
 abbrev pub headerOf : ℕ → ℕ → ℕ → ℕ → ℕ → Header
 headerOf kind value mode len size = record { half = 0; kind = kind; value = value; mode = mode; len = len; size = size; start = 0; entry = 0 }
+
+-- an object of a kind that has no scalars, whatever lies in the slot's
+abbrev pub Scalarless : Header → List ℕ → Type 0
+Scalarless h region = (x : Scalars) → Object h region x
 
 -- 5, 6, 7 in this order, or accepted
 abbrev pub judgedIn : State → ℕ → ℕ → Done
@@ -44,6 +48,7 @@ withNext t x = withScalars t (setScalars (t .scalars) (nextSlot t) x)
 pub record MadePlain (t m : State) (h : Header) (bytes : ℕ) (r : Reading) (a : State) : Type 0 where
   pub answer : r ≡ answerBy (judgedIn t bytes 0) (newWord m (h .kind))
   pub after : a ≡ stateBy (judgedIn t bytes 0) t (placedPlain m h bytes)
+  pub good : Good a
 
 -- a new object of these bytes is accepted, and its region fits in at the top
 pub record Placeable (m : State) (bytes size : ℕ) : Type 0 where
@@ -61,11 +66,15 @@ pub record Ready (t m : State) (bytes size : ℕ) : Type 0 where
 abbrev pub placed : State → Header → ℕ → State
 placed m h bytes = cond (eqb (h .size) 0) (placedPlain m h bytes) (placedRegion m h bytes)
 
+abbrev pub Finishes : State → Header → ℕ → Reading → State → Type 0
+Finishes m h bytes r a = Places (placed m h bytes) (newWord m (h .kind)) r a
+
 -- 5, 6, 7 judged, and room made
 pub record Prepared (t : State) (bytes size : ℕ) (d : Done) (m : State) : Type 0 where
   pub judged : d ≡ judgedIn t bytes size
   pub refused : (q : Refusal) → d ≡ Do.Refused q → m ≡ t
   pub accepted : d ≡ Do.Accepted → Ready t m bytes size
+  pub good : Good m
 
 -- an object of the cells ws: refused, and nothing changed; or placed in a state m that has them at the top
 pub data MadeWords (t : State) (h : Header) (bytes : ℕ) (ws : List ℕ) (r : Reading) (a : State) : Type 0 where

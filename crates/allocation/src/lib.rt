@@ -1,28 +1,27 @@
-// Allocation of every kind but maps and iterators.
+// Allocation of every kind but maps and iterators. What the calls are built on stands apart:
+// `making`.
+pub mod making;
+
 ghost use mathlib.Core.Path.{_≡_};
 ghost use Prim.Native.Nat.{_+_, _*_, _/_, _≤_};
-ghost use lib.ListN.{length, replicate, take};
+ghost use lib.ListN.{length, take};
 ghost use Rattle.account.specs.Account.{saturated};
 ghost use Rattle.model.specs.Calls as Calls;
 ghost use Rattle.heap.specs.State.{state};
 ghost use Rattle.heap.specs.Good.{Good};
 ghost use Rattle.heap.specs.Promise.{Performs};
 ghost use Rattle.heap.specs.Answers.{madeIs};
-ghost use Rattle.heap.specs.Placing.{newWord};
-ghost use Rattle.heap.specs.declared.Reading.the-variants.{Is};
 ghost use Rattle.heap.specs.Kinds.{framesIn};
 ghost use Rattle.allocation.specs.Coroutines.{Begins, Seated, callOf, refusedWith};
 ghost use Rattle.allocation.specs.Frames.{copied, putFrame};
-ghost use Rattle.allocation.specs.Making.{MadePlain, MadeWords, Placeable, Prepared, headerOf, placed, withNext};
+ghost use Rattle.allocation.specs.Making.{Placeable};
 use heap::Done;
 use heap::Heap;
 use heap::Made;
 use heap::Reading;
 use heap::Refusal;
-use heap::Settled;
 use model::Frame;
 use model::Weights;
-use slots::Header;
 use slots::Scalars;
 
 // The rows of the table of kinds.
@@ -44,75 +43,6 @@ const FUNCTION: u64 = 9;
 
 const COROUTINE: u64 = 11;
 
-// A header for the placing, which gives half, start and entry.
-pub fn header(kind: u64, value: u64, mode: u64, len: u64, size: u64) -> Header
-    ensures { λ r. ⌜ r ≡ headerOf kind value mode len size ⌝ }
-{
-    Header {
-        half: 0,
-        kind,
-        value,
-        mode,
-        len,
-        size,
-        start: 0,
-        entry: 0,
-    }
-}
-
-// An object without cells: kind, value, mode and len are the header's.
-pub fn new_plain(
-    heap: Heap,
-    slots: &mut [u64],
-    scalars: &[u64],
-    list: &[u64],
-    directory: &[u64],
-    cells: &[u64],
-    header: Header,
-    bytes: u64,
-) -> Made
-    requires { ⌜ Good (state heap (now slots) (now scalars) (now list) (now directory) (now cells)) ⌝ }
-    ensures { λ r. ⌜ MadePlain (state heap (now (slots .entry)) (now (scalars .entry)) (now (list .entry)) (now (directory .entry)) (now (cells .entry))) (state heap (now (slots .entry)) (now (scalars .entry)) (now (list .entry)) (now (directory .entry)) (now (cells .entry))) header bytes (r .answer) (state (r .heap) (now (slots .exit)) (now (scalars .entry)) (now (list .entry)) (now (directory .entry)) (now (cells .entry))) ⌝ }
-{
-    match heap::judge_new(heap, cells.len() as u64, bytes, 0) {
-        Done::Refused(q) => Made {
-            heap,
-            answer: Reading::Refused(q),
-        },
-        Done::Accepted => {
-            heap::place_plain(heap, slots, scalars, list, directory, cells, header, bytes)
-        }
-    }
-}
-
-// An object without cells that has scalars.
-pub fn new_with_scalars(
-    heap: Heap,
-    slots: &mut [u64],
-    scalars: &mut [u64],
-    list: &[u64],
-    directory: &[u64],
-    cells: &[u64],
-    header: Header,
-    more: Scalars,
-    bytes: u64,
-) -> Made
-    requires { ⌜ Good (state heap (now slots) (now scalars) (now list) (now directory) (now cells)) ⌝ }
-    ensures { λ r. ⌜ MadePlain (state heap (now (slots .entry)) (now (scalars .entry)) (now (list .entry)) (now (directory .entry)) (now (cells .entry))) (withNext (state heap (now (slots .entry)) (now (scalars .entry)) (now (list .entry)) (now (directory .entry)) (now (cells .entry))) more) header bytes (r .answer) (state (r .heap) (now (slots .exit)) (now (scalars .exit)) (now (list .entry)) (now (directory .entry)) (now (cells .entry))) ⌝ }
-{
-    match heap::judge_new(heap, cells.len() as u64, bytes, 0) {
-        Done::Refused(q) => Made {
-            heap,
-            answer: Reading::Refused(q),
-        },
-        Done::Accepted => {
-            let i = heap::next_slot(list, heap.fresh, heap.free);
-            slots::write_scalars(scalars, i as usize, more);
-            heap::place_plain(heap, slots, scalars, list, directory, cells, header, bytes)
-        }
-    }
-}
-
 pub fn new_integer(
     heap: Heap,
     slots: &mut [u64],
@@ -126,8 +56,8 @@ pub fn new_integer(
     ensures { λ r. ⌜ Performs (Calls.new-integer z) (state heap (now (slots .entry)) (now (scalars .entry)) (now (list .entry)) (now (directory .entry)) (now (cells .entry))) (madeIs (r .answer)) (state (r .heap) (now (slots .exit)) (now (scalars .entry)) (now (list .entry)) (now (directory .entry)) (now (cells .entry))) ⌝ }
 {
     let weights = heap.weights;
-    let h = header(INTEGER, words::bits_of(z), 0, 0, 0);
-    new_plain(
+    let h = making::header(INTEGER, words::bits_of(z), 0, 0, 0);
+    making::new_plain(
         heap,
         slots,
         scalars,
@@ -159,8 +89,8 @@ pub fn new_cell(
         };
     }
     let weights = heap.weights;
-    let h = header(CELL, w, t, 0, 0);
-    new_plain(
+    let h = making::header(CELL, w, t, 0, 0);
+    making::new_plain(
         heap,
         slots,
         scalars,
@@ -186,8 +116,8 @@ pub fn new_error(
     ensures { λ r. ⌜ Performs (Calls.new-error kind w) (state heap (now (slots .entry)) (now (scalars .entry)) (now (list .entry)) (now (directory .entry)) (now (cells .entry))) (madeIs (r .answer)) (state (r .heap) (now (slots .exit)) (now (scalars .entry)) (now (list .entry)) (now (directory .entry)) (now (cells .entry))) ⌝ }
 {
     let weights = heap.weights;
-    let h = header(ERROR, w, kind as u64, 0, 0);
-    new_plain(
+    let h = making::header(ERROR, w, kind as u64, 0, 0);
+    making::new_plain(
         heap,
         slots,
         scalars,
@@ -212,8 +142,8 @@ pub fn new_box(
     ensures { λ r. ⌜ Performs (Calls.new-box w) (state heap (now (slots .entry)) (now (scalars .entry)) (now (list .entry)) (now (directory .entry)) (now (cells .entry))) (madeIs (r .answer)) (state (r .heap) (now (slots .exit)) (now (scalars .entry)) (now (list .entry)) (now (directory .entry)) (now (cells .entry))) ⌝ }
 {
     let weights = heap.weights;
-    let h = header(BOX, w, 0, 0, 0);
-    new_plain(
+    let h = making::header(BOX, w, 0, 0, 0);
+    making::new_plain(
         heap,
         slots,
         scalars,
@@ -223,103 +153,6 @@ pub fn new_box(
         h,
         weights.slot,
     )
-}
-
-// A base weight and eight bytes for each of n words.
-fn word_bytes(base: u64, n: u64) -> u64
-    ensures { λ r. ⌜ r ≡ saturated (base + 8 * n) ⌝ }
-{
-    account::saturating_add(base, account::saturating_mul(8, n))
-}
-
-// 5, 6, 7 judged; an accepted object of `size` cells then has room for them at the top.
-fn prepare(
-    heap: Heap,
-    slots: &mut [u64],
-    scalars: &[u64],
-    list: &[u64],
-    directory: &mut [u64],
-    cells: &mut [u64],
-    bytes: u64,
-    size: u64,
-) -> Settled
-    requires { ⌜ Good (state heap (now slots) (now scalars) (now list) (now directory) (now cells)) ⌝ }
-    ensures { λ r. ⌜ Prepared (state heap (now (slots .entry)) (now (scalars .entry)) (now (list .entry)) (now (directory .entry)) (now (cells .entry))) bytes size (r .done) (state (r .heap) (now (slots .exit)) (now (scalars .entry)) (now (list .entry)) (now (directory .exit)) (now (cells .exit))) ⌝ }
-{
-    match heap::judge_new(heap, cells.len() as u64, bytes, size) {
-        Done::Refused(q) => Settled {
-            heap,
-            done: Done::Refused(q),
-        },
-        Done::Accepted => {
-            if size == 0 {
-                return Settled {
-                    heap,
-                    done: Done::Accepted,
-                };
-            }
-            let roomy = heap::make_room(heap, slots, scalars, list, directory, cells, size);
-            Settled {
-                heap: roomy,
-                done: Done::Accepted,
-            }
-        }
-    }
-}
-
-// The object is placed, with the cells at the top if it has any.
-fn finish(
-    heap: Heap,
-    slots: &mut [u64],
-    scalars: &[u64],
-    list: &[u64],
-    directory: &mut [u64],
-    cells: &[u64],
-    header: Header,
-    bytes: u64,
-) -> Made
-    requires { ⌜ Placeable (state heap (now slots) (now scalars) (now list) (now directory) (now cells)) bytes (header .size) ⌝ }
-    ensures { λ r. ⌜ (state (r .heap) (now (slots .exit)) (now (scalars .entry)) (now (list .entry)) (now (directory .exit)) (now (cells .entry)) ≡ placed (state heap (now (slots .entry)) (now (scalars .entry)) (now (list .entry)) (now (directory .entry)) (now (cells .entry))) header bytes) × (r .answer ≡ Is (newWord (state heap (now (slots .entry)) (now (scalars .entry)) (now (list .entry)) (now (directory .entry)) (now (cells .entry))) (header .kind))) ⌝ }
-{
-    if header.size == 0 {
-        return heap::place_plain(heap, slots, scalars, list, directory, cells, header, bytes);
-    }
-    heap::place_region(heap, slots, scalars, list, directory, cells, header, bytes)
-}
-
-// An object whose cells are lent words.
-fn new_words(
-    heap: Heap,
-    slots: &mut [u64],
-    scalars: &[u64],
-    list: &[u64],
-    directory: &mut [u64],
-    cells: &mut [u64],
-    kind: u64,
-    value: u64,
-    mode: u64,
-    words: &[u64],
-) -> Made
-    requires { ⌜ Good (state heap (now slots) (now scalars) (now list) (now directory) (now cells)) ⌝ }
-    ensures { λ r. ⌜ MadeWords (state heap (now (slots .entry)) (now (scalars .entry)) (now (list .entry)) (now (directory .entry)) (now (cells .entry))) (headerOf kind value mode (length (now (words .entry))) (length (now (words .entry)))) (saturated (heap .weights .slot + 8 * length (now (words .entry)))) (now (words .entry)) (r .answer) (state (r .heap) (now (slots .exit)) (now (scalars .entry)) (now (list .entry)) (now (directory .exit)) (now (cells .exit))) ⌝ }
-{
-    let weights = heap.weights;
-    let n = words.len() as u64;
-    let bytes = word_bytes(weights.slot, n);
-    let p = prepare(heap, slots, scalars, list, directory, cells, bytes, n);
-    let roomy = p.heap;
-    let done = p.done;
-    match done {
-        Done::Refused(q) => Made {
-            heap: roomy,
-            answer: Reading::Refused(q),
-        },
-        Done::Accepted => {
-            cells::copy_words(words, cells, roomy.top as usize);
-            let h = header(kind, value, mode, n, n);
-            finish(roomy, slots, scalars, list, directory, cells, h, bytes)
-        }
-    }
 }
 
 pub fn new_struct(
@@ -335,7 +168,7 @@ pub fn new_struct(
     requires { ⌜ Good (state heap (now slots) (now scalars) (now list) (now directory) (now cells)) ⌝ }
     ensures { λ r. ⌜ Performs (Calls.new-struct number (now (fields .entry))) (state heap (now (slots .entry)) (now (scalars .entry)) (now (list .entry)) (now (directory .entry)) (now (cells .entry))) (madeIs (r .answer)) (state (r .heap) (now (slots .exit)) (now (scalars .entry)) (now (list .entry)) (now (directory .exit)) (now (cells .exit))) ⌝ }
 {
-    new_words(
+    making::new_words(
         heap,
         slots,
         scalars,
@@ -367,7 +200,7 @@ pub fn new_function(
     if import {
         mode = 1;
     }
-    new_words(
+    making::new_words(
         heap,
         slots,
         scalars,
@@ -379,38 +212,6 @@ pub fn new_function(
         mode,
         captures,
     )
-}
-
-// An array of n nil words.
-fn new_items(
-    heap: Heap,
-    slots: &mut [u64],
-    scalars: &[u64],
-    list: &[u64],
-    directory: &mut [u64],
-    cells: &mut [u64],
-    t: u64,
-    n: u64,
-) -> Made
-    requires { ⌜ Good (state heap (now slots) (now scalars) (now list) (now directory) (now cells)) ⌝ }
-    ensures { λ r. ⌜ MadeWords (state heap (now (slots .entry)) (now (scalars .entry)) (now (list .entry)) (now (directory .entry)) (now (cells .entry))) (headerOf 6 0 t n n) (saturated (heap .weights .slot + 8 * n)) (replicate n 0) (r .answer) (state (r .heap) (now (slots .exit)) (now (scalars .entry)) (now (list .entry)) (now (directory .exit)) (now (cells .exit))) ⌝ }
-{
-    let weights = heap.weights;
-    let bytes = word_bytes(weights.slot, n);
-    let p = prepare(heap, slots, scalars, list, directory, cells, bytes, n);
-    let roomy = p.heap;
-    let done = p.done;
-    match done {
-        Done::Refused(q) => Made {
-            heap: roomy,
-            answer: Reading::Refused(q),
-        },
-        Done::Accepted => {
-            cells::fill(cells, roomy.top as usize, n as usize);
-            let h = header(ARRAY, 0, t, n, n);
-            finish(roomy, slots, scalars, list, directory, cells, h, bytes)
-        }
-    }
 }
 
 pub fn new_array(
@@ -438,7 +239,7 @@ pub fn new_array(
             answer: Reading::Refused(Refusal::Outside),
         };
     }
-    new_items(
+    making::new_items(
         heap,
         slots,
         scalars,
@@ -466,7 +267,7 @@ pub fn new_string(
     let n = bytes.len() as u64;
     let weight = account::saturating_add(weights.slot, n);
     let size = n / 8 + (n % 8 + 7) / 8;
-    let p = prepare(heap, slots, scalars, list, directory, cells, weight, size);
+    let p = making::prepare(heap, slots, scalars, list, directory, cells, weight, size);
     let roomy = p.heap;
     let done = p.done;
     match done {
@@ -476,8 +277,8 @@ pub fn new_string(
         },
         Done::Accepted => {
             cells::write_string(bytes, cells, roomy.top as usize);
-            let h = header(STRING, 0, 0, n, size);
-            finish(roomy, slots, scalars, list, directory, cells, h, weight)
+            let h = making::header(STRING, 0, 0, n, size);
+            making::finish(roomy, slots, scalars, list, directory, cells, h, weight)
         }
     }
 }
@@ -505,7 +306,7 @@ fn coroutine_bytes(weights: Weights, registers: u64, frames: u64) -> u64
 {
     let base = account::saturating_add(weights.slot, weights.coroutine);
     account::saturating_add(
-        word_bytes(base, registers),
+        making::word_bytes(base, registers),
         account::saturating_mul(weights.frame, frames),
     )
 }
@@ -530,7 +331,7 @@ fn place_coroutine(
     size: u64,
     bytes: u64,
 ) -> Made
-    requires { ⌜ Placeable (state heap (now slots) (now scalars) (now list) (now directory) (now cells)) bytes size × (length (now registers) ≤ size) ⌝ }
+    requires { ⌜ Placeable (state heap (now slots) (now scalars) (now list) (now directory) (now cells)) bytes size × (size ≡ length (now registers) + 4 * frames) ⌝ }
     ensures { λ r. ⌜ Seated (state heap (now (slots .entry)) (now (scalars .entry)) (now (list .entry)) (now (directory .entry)) (now (cells .entry))) k (now (registers .entry)) frames size bytes (r .answer) (state (r .heap) (now (slots .exit)) (now (scalars .exit)) (now (list .entry)) (now (directory .exit)) (now (cells .exit))) ⌝ }
 {
     let x = Scalars {
@@ -543,11 +344,11 @@ fn place_coroutine(
         g: 0,
         h: 0,
     };
-    let i = heap::next_slot(list, heap.fresh, heap.free);
+    let i = heap::placing::next_slot(list, heap.fresh, heap.free);
     slots::write_scalars(scalars, i as usize, x);
     cells::copy_words(registers, cells, heap.top as usize);
-    let h = header(COROUTINE, k.sequence, k.state, registers.len() as u64, size);
-    finish(heap, slots, scalars, list, directory, cells, h, bytes)
+    let h = making::header(COROUTINE, k.sequence, k.state, registers.len() as u64, size);
+    making::finish(heap, slots, scalars, list, directory, cells, h, bytes)
 }
 
 fn refuse(heap: Heap, q: Refusal) -> Begun
@@ -586,7 +387,7 @@ fn begin(
     let weights = heap.weights;
     let bytes = coroutine_bytes(weights, words, n);
     let size = coroutine_cells(words, n);
-    let p = prepare(heap, slots, scalars, list, directory, cells, bytes, size);
+    let p = making::prepare(heap, slots, scalars, list, directory, cells, bytes, size);
     let roomy = p.heap;
     let done = p.done;
     match done {

@@ -7,7 +7,7 @@ use mathlib.Core.Option.{none, some}
 use native.Mathlib.Omega.{arith}
 use lib.Dec.{eqb}
 use Rattle.account.specs.AccountLaws.{saturated-below}
-use Rattle.slots.specs.Header.{headerAt, scalarsAt}
+use Rattle.slots.specs.Header.{headerAt, scalarsAt, withRegion}
 use Rattle.slots.specs.Lookup.{Finds}
 use Rattle.slots.specs.declared.Found.{Found}
 use Rattle.slots.specs.declared.Found.the-variants as F
@@ -37,7 +37,7 @@ use Rattle.heap.specs.Kinds.{contentOf, mapOf}
 use Rattle.heap.specs.State.{State, modelOf, moreOf, rawOf}
 use Rattle.heap.specs.Good.{Good}
 use Rattle.heap.specs.Promise.{Performs}
-use Rattle.heap.specs.Placing.{newRaw}
+use Rattle.heap.specs.Placing.{Object, newRaw}
 use Rattle.heap.proofs.DoesLaws.{first-none, first-passes, first-refuses}
 use Rattle.heap.proofs.KindLaws.{content-array, content-iterator, content-map, iterable-test, room-map, room-none, row-of-content}
 use Rattle.heap.proofs.ReachLaws.{found-reached, nothing-look, nothing-target, reached-look, reached-target, wrong-look, wrong-target}
@@ -62,11 +62,13 @@ empty-good keys values = record {
   indexed = λ e. absurd (let z : _≡_ {A = ℕ} 0 1 = cc in omega arith);
 }
 
+pub empty-object : {h : Header} (keys values : ℕ) → h ≡ headerOf 7 0 0 0 0 → Object (withRegion h 0 0 0) [] (emptyMap keys values)
+empty-object keys values e = rw e record { some-kind = λ z. absurd (omega (arith, z)); fit = map-slot-good (omega arith) (omega arith) refl (empty-good keys values) refl (omega arith) }
+
 map-means : (keys values : ℕ) → Means (headerOf 7 0 0 0 0) [] (emptyMap keys values) (map-object record { keyType = keys; valueType = values; store = emptyStore }) emptyRoom
 unfolding entriesIn
 map-means keys values = record {
-  some-kind = λ z. absurd (omega (arith, z));
-  fit = map-slot-good (omega arith) (omega arith) refl (empty-good keys values) refl (omega arith);
+  object = empty-object keys values refl;
   content = content-map (newRaw 65536 (headerOf 7 0 0 0 0) []) (emptyMap keys values) refl;
   room = room-map (newRaw 65536 (headerOf 7 0 0 0 0) []) refl;
 }
@@ -99,10 +101,12 @@ module _ {t : State} (g : Good t) {keys values : ℕ} where
 abbrev newIterator : ℕ → ℕ → Content
 newIterator source keys = iterator record { source = source; keyType = keys; ended = false; key = none; cursor = startCursor }
 
+pub iterator-object : {h : Header} (source keys : ℕ) → h ≡ headerOf 10 source keys 0 0 → Object (withRegion h 0 0 0) [] unbegun
+iterator-object source keys e = rw e record { some-kind = λ z. absurd (omega (arith, z)); fit = iterator-good (omega arith) (omega arith) refl refl (omega arith) }
+
 iterator-means : (source keys : ℕ) → Means (headerOf 10 source keys 0 0) [] unbegun (newIterator source keys) noRoom
 iterator-means source keys = record {
-  some-kind = λ z. absurd (omega (arith, z));
-  fit = iterator-good (omega arith) (omega arith) refl refl (omega arith);
+  object = iterator-object source keys refl;
   content = content-iterator (newRaw 65536 (headerOf 10 source keys 0 0) []) unbegun refl;
   room = room-none (newRaw 65536 (headerOf 10 source keys 0 0) []) (λ z. absurd (omega (arith, z))) (λ z. absurd (omega (arith, z)));
 }

@@ -23,6 +23,7 @@ ghost use Rattle.collections.specs.Beginning.{Begins};
 ghost use Rattle.collections.specs.Visits.{ArrayKnown, MapKnown, Ends, Moves, VisitsArray, VisitsMap, Visits};
 use account::Account;
 use account::Charged;
+use allocation::making;
 use cells::Top;
 use heap::Done;
 use heap::Heap;
@@ -32,6 +33,7 @@ use heap::Reading;
 use heap::Refusal;
 use heap::Settled;
 use heap::Test;
+use heap::lookup;
 use map_store::Cursor;
 use map_store::Last;
 use map_store::MapStore;
@@ -110,7 +112,7 @@ fn word_of(slots: &[u64], words: &[u64], fresh: u64, w: u64, kind: u64, k: usize
     requires { ⌜ (fresh ≤ 65536) × (fresh * 8 ≤ length (now slots)) × (fresh * 8 ≤ length (now words)) × (k < 8) ⌝ }
     ensures { λ r. ⌜ WordOf (now (slots .entry)) (now (words .entry)) fresh w kind k r ⌝ }
 {
-    match heap::locate(slots, fresh, w, kind) {
+    match lookup::locate(slots, fresh, w, kind) {
         Located::Refused(q) => Reading::Refused(q),
         Located::At(i) => Reading::Is(words[i * 8 + k]),
     }
@@ -845,7 +847,7 @@ pub fn noted_key(
     requires { ⌜ Good (state heap (now slots) (now scalars) (now list) (now directory) (now cells)) ⌝ }
     ensures { λ r. ⌜ Reads (Calls.noted-key w) (state heap (now (slots .entry)) (now (scalars .entry)) (now (list .entry)) (now (directory .entry)) (now (cells .entry))) (notedSeen r) ⌝ }
 {
-    match heap::locate(slots, heap.fresh, w, MAP) {
+    match lookup::locate(slots, heap.fresh, w, MAP) {
         Located::Refused(q) => Noted::Refused(q),
         Located::At(i) => {
             let x = slots::read_scalars(scalars, i);
@@ -870,7 +872,7 @@ pub fn next_key(
     requires { ⌜ Good (state heap (now slots) (now scalars) (now list) (now directory) (now cells)) ⌝ }
     ensures { λ r. ⌜ Reads (Calls.next-key w) (state heap (now (slots .entry)) (now (scalars .entry)) (now (list .entry)) (now (directory .entry)) (now (cells .entry))) (nextSeen r) ⌝ }
 {
-    match heap::locate(slots, heap.fresh, w, MAP) {
+    match lookup::locate(slots, heap.fresh, w, MAP) {
         Located::Refused(q) => NextInt::Refused(q),
         Located::At(i) => {
             let h = slots::read_header(slots, i);
@@ -897,7 +899,7 @@ pub fn growth_bytes(
     requires { ⌜ Good (state heap (now slots) (now scalars) (now list) (now directory) (now cells)) ⌝ }
     ensures { λ r. ⌜ Reads (Calls.growth-bytes w key) (state heap (now (slots .entry)) (now (scalars .entry)) (now (list .entry)) (now (directory .entry)) (now (cells .entry))) (readingIs r) ⌝ }
 {
-    match heap::locate(slots, heap.fresh, w, MAP) {
+    match lookup::locate(slots, heap.fresh, w, MAP) {
         Located::Refused(q) => Reading::Refused(q),
         Located::At(i) => {
             let h = slots::read_header(slots, i);
@@ -929,7 +931,7 @@ pub fn find(
     requires { ⌜ Good (state heap (now slots) (now scalars) (now list) (now directory) (now cells)) ⌝ }
     ensures { λ r. ⌜ Reads (Calls.find w hash key) (state heap (now (slots .entry)) (now (scalars .entry)) (now (list .entry)) (now (directory .entry)) (now (cells .entry))) (perhapsIs r) ⌝ }
 {
-    match heap::locate(slots, heap.fresh, w, MAP) {
+    match lookup::locate(slots, heap.fresh, w, MAP) {
         Located::Refused(q) => Perhaps::Refused(q),
         Located::At(i) => {
             let h = slots::read_header(slots, i);
@@ -956,7 +958,7 @@ pub fn read_entry(
     requires { ⌜ Good (state heap (now slots) (now scalars) (now list) (now directory) (now cells)) ⌝ }
     ensures { λ r. ⌜ Reads (Calls.read-entry w pos) (state heap (now (slots .entry)) (now (scalars .entry)) (now (list .entry)) (now (directory .entry)) (now (cells .entry))) (entrySeen r) ⌝ }
 {
-    match heap::locate(slots, heap.fresh, w, MAP) {
+    match lookup::locate(slots, heap.fresh, w, MAP) {
         Located::Refused(q) => EntryRead::Refused(q),
         Located::At(i) => {
             let h = slots::read_header(slots, i);
@@ -983,7 +985,7 @@ pub fn step_cursor(
     requires { ⌜ Good (state heap (now slots) (now scalars) (now list) (now directory) (now cells)) ⌝ }
     ensures { λ r. ⌜ Reads (Calls.next w (cursorIs c)) (state heap (now (slots .entry)) (now (scalars .entry)) (now (list .entry)) (now (directory .entry)) (now (cells .entry))) (stepSeen (cursorIs c) r) ⌝ }
 {
-    match heap::locate(slots, heap.fresh, w, MAP) {
+    match lookup::locate(slots, heap.fresh, w, MAP) {
         Located::Refused(q) => Moved::Refused(q),
         Located::At(i) => {
             let h = slots::read_header(slots, i);
@@ -1112,7 +1114,7 @@ pub fn iter_key(
     requires { ⌜ Good (state heap (now slots) (now scalars) (now list) (now directory) (now cells)) ⌝ }
     ensures { λ r. ⌜ Reads (Calls.iter-key w) (state heap (now (slots .entry)) (now (scalars .entry)) (now (list .entry)) (now (directory .entry)) (now (cells .entry))) (perhapsIs r) ⌝ }
 {
-    match heap::locate(slots, heap.fresh, w, ITERATOR) {
+    match lookup::locate(slots, heap.fresh, w, ITERATOR) {
         Located::Refused(q) => Perhaps::Refused(q),
         Located::At(i) => {
             let x = slots::read_scalars(scalars, i);
@@ -1137,12 +1139,12 @@ pub fn iter_cursor(
     requires { ⌜ Good (state heap (now slots) (now scalars) (now list) (now directory) (now cells)) ⌝ }
     ensures { λ r. ⌜ Reads (Calls.iter-cursor w) (state heap (now (slots .entry)) (now (scalars .entry)) (now (list .entry)) (now (directory .entry)) (now (cells .entry))) (cursorSeen r) ⌝ }
 {
-    match heap::locate(slots, heap.fresh, w, ITERATOR) {
+    match lookup::locate(slots, heap.fresh, w, ITERATOR) {
         Located::Refused(q) => CursorRead::Refused(q),
         Located::At(i) => {
             let h = slots::read_header(slots, i);
             let x = slots::read_scalars(scalars, i);
-            if heap::row_at(slots, heap.fresh, h.value) == ARRAY {
+            if lookup::row_at(slots, heap.fresh, h.value) == ARRAY {
                 return CursorRead::Index(x.f);
             }
             CursorRead::Map(cursor_of(x))
@@ -1163,7 +1165,7 @@ pub fn pop(
     requires { ⌜ Good (state heap (now slots) (now scalars) (now list) (now directory) (now cells)) ⌝ }
     ensures { λ r. ⌜ Performs (Calls.pop w) (state heap (now (slots .entry)) (now (scalars .entry)) (now (list .entry)) (now (directory .entry)) (now (cells .entry))) (readingIs r) (state heap (now (slots .exit)) (now (scalars .entry)) (now (list .entry)) (now (directory .entry)) (now (cells .entry))) ⌝ }
 {
-    match heap::locate(slots, heap.fresh, w, ARRAY) {
+    match lookup::locate(slots, heap.fresh, w, ARRAY) {
         Located::Refused(q) => Reading::Refused(q),
         Located::At(i) => {
             let h = slots::read_header(slots, i);
@@ -1206,7 +1208,7 @@ pub fn set_value(
     requires { ⌜ Good (state heap (now slots) (now scalars) (now list) (now directory) (now cells)) ⌝ }
     ensures { λ r. ⌜ Performs (Calls.set-value w pos v) (state heap (now (slots .entry)) (now (scalars .entry)) (now (list .entry)) (now (directory .entry)) (now (cells .entry))) (doneIs r) (state heap (now (slots .entry)) (now (scalars .entry)) (now (list .entry)) (now (directory .entry)) (now (cells .exit))) ⌝ }
 {
-    match heap::locate(slots, heap.fresh, w, MAP) {
+    match lookup::locate(slots, heap.fresh, w, MAP) {
         Located::Refused(q) => Done::Refused(q),
         Located::At(i) => {
             let h = slots::read_header(slots, i);
@@ -1231,7 +1233,7 @@ pub fn note(
     requires { ⌜ Good (state heap (now slots) (now scalars) (now list) (now directory) (now cells)) ⌝ }
     ensures { λ r. ⌜ Performs (Calls.note w k) (state heap (now (slots .entry)) (now (scalars .entry)) (now (list .entry)) (now (directory .entry)) (now (cells .entry))) (doneIs r) (state heap (now (slots .exit)) (now (scalars .exit)) (now (list .entry)) (now (directory .entry)) (now (cells .entry))) ⌝ }
 {
-    match heap::locate(slots, heap.fresh, w, MAP) {
+    match lookup::locate(slots, heap.fresh, w, MAP) {
         Located::Refused(q) => Done::Refused(q),
         Located::At(i) => {
             let h = slots::read_header(slots, i);
@@ -1255,7 +1257,7 @@ pub fn iter_next(
     requires { ⌜ Good (state heap (now slots) (now scalars) (now list) (now directory) (now cells)) ⌝ }
     ensures { λ r. ⌜ Performs (Calls.iter-next w) (state heap (now (slots .entry)) (now (scalars .entry)) (now (list .entry)) (now (directory .entry)) (now (cells .entry))) (perhapsIs r) (state heap (now (slots .entry)) (now (scalars .exit)) (now (list .entry)) (now (directory .entry)) (now (cells .entry))) ⌝ }
 {
-    match heap::locate(slots, heap.fresh, w, ITERATOR) {
+    match lookup::locate(slots, heap.fresh, w, ITERATOR) {
         Located::Refused(q) => Perhaps::Refused(q),
         Located::At(i) => {
             let h = slots::read_header(slots, i);
@@ -1285,7 +1287,7 @@ fn push_change(
     requires { ⌜ Good (state heap (now slots) (now scalars) (now list) (now directory) (now cells)) ⌝ }
     ensures { λ r. ⌜ Performs (Calls.push w v) (state heap (now (slots .entry)) (now (scalars .entry)) (now (list .entry)) (now (directory .entry)) (now (cells .entry))) (doneIs (r .done)) (state (changedHeap heap r) (now (slots .exit)) (now (scalars .entry)) (now (list .entry)) (now (directory .exit)) (now (cells .exit))) ⌝ }
 {
-    match heap::locate(slots, heap.fresh, w, ARRAY) {
+    match lookup::locate(slots, heap.fresh, w, ARRAY) {
         Located::Refused(q) => unchanged(heap, Done::Refused(q)),
         Located::At(i) => {
             let h = slots::read_header(slots, i);
@@ -1337,7 +1339,7 @@ fn insert_entry_change(
     requires { ⌜ Good (state heap (now slots) (now scalars) (now list) (now directory) (now cells)) ⌝ }
     ensures { λ r. ⌜ Performs (Calls.insert-entry w hash key value) (state heap (now (slots .entry)) (now (scalars .entry)) (now (list .entry)) (now (directory .entry)) (now (cells .entry))) (doneIs (r .done)) (state (changedHeap heap r) (now (slots .exit)) (now (scalars .exit)) (now (list .entry)) (now (directory .exit)) (now (cells .exit))) ⌝ }
 {
-    match heap::locate(slots, heap.fresh, w, MAP) {
+    match lookup::locate(slots, heap.fresh, w, MAP) {
         Located::Refused(q) => unchanged(heap, Done::Refused(q)),
         Located::At(i) => insert_at(
             heap,
@@ -1400,7 +1402,7 @@ fn put_change(
     requires { ⌜ Good (state heap (now slots) (now scalars) (now list) (now directory) (now cells)) ⌝ }
     ensures { λ r. ⌜ Performs (Calls.put w hash key value) (state heap (now (slots .entry)) (now (scalars .entry)) (now (list .entry)) (now (directory .entry)) (now (cells .entry))) (doneIs (r .done)) (state (changedHeap heap r) (now (slots .exit)) (now (scalars .exit)) (now (list .entry)) (now (directory .exit)) (now (cells .exit))) ⌝ }
 {
-    match heap::locate(slots, heap.fresh, w, MAP) {
+    match lookup::locate(slots, heap.fresh, w, MAP) {
         Located::Refused(q) => unchanged(heap, Done::Refused(q)),
         Located::At(i) => {
             let h = slots::read_header(slots, i);
@@ -1477,7 +1479,7 @@ fn remove_at_change(
     requires { ⌜ Good (state heap (now slots) (now scalars) (now list) (now directory) (now cells)) ⌝ }
     ensures { λ r. ⌜ Performs (Calls.remove-at w pos) (state heap (now (slots .entry)) (now (scalars .entry)) (now (list .entry)) (now (directory .entry)) (now (cells .entry))) (doneIs (r .done)) (state (changedHeap heap r) (now (slots .exit)) (now (scalars .exit)) (now (list .entry)) (now (directory .exit)) (now (cells .exit))) ⌝ }
 {
-    match heap::locate(slots, heap.fresh, w, MAP) {
+    match lookup::locate(slots, heap.fresh, w, MAP) {
         Located::Refused(q) => unchanged(heap, Done::Refused(q)),
         Located::At(i) => remove_place(
             heap,
@@ -1524,7 +1526,7 @@ fn remove_change(
     requires { ⌜ Good (state heap (now slots) (now scalars) (now list) (now directory) (now cells)) ⌝ }
     ensures { λ r. ⌜ Performs (Calls.remove w hash key) (state heap (now (slots .entry)) (now (scalars .entry)) (now (list .entry)) (now (directory .entry)) (now (cells .entry))) (doneIs (r .done)) (state (changedHeap heap r) (now (slots .exit)) (now (scalars .exit)) (now (list .entry)) (now (directory .exit)) (now (cells .exit))) ⌝ }
 {
-    match heap::locate(slots, heap.fresh, w, MAP) {
+    match lookup::locate(slots, heap.fresh, w, MAP) {
         Located::Refused(q) => unchanged(heap, Done::Refused(q)),
         Located::At(i) => {
             let h = slots::read_header(slots, i);
@@ -1599,7 +1601,7 @@ pub fn new_map(
         };
     }
     let weights = heap.weights;
-    let h = allocation::header(MAP, 0, 0, 0, 0);
+    let h = making::header(MAP, 0, 0, 0, 0);
     let x = Scalars {
         a: keys,
         b: values,
@@ -1610,7 +1612,7 @@ pub fn new_map(
         g: 0,
         h: 0,
     };
-    allocation::new_with_scalars(
+    making::new_with_scalars(
         heap,
         slots,
         scalars,
@@ -1638,7 +1640,7 @@ fn begin_iter(
     ensures { λ r. ⌜ Begins (state heap (now (slots .entry)) (now (scalars .entry)) (now (list .entry)) (now (directory .entry)) (now (cells .entry))) source keys (r .answer) (state (r .heap) (now (slots .exit)) (now (scalars .exit)) (now (list .entry)) (now (directory .entry)) (now (cells .entry))) ⌝ }
 {
     let weights = heap.weights;
-    let h = allocation::header(ITERATOR, source, keys, 0, 0);
+    let h = making::header(ITERATOR, source, keys, 0, 0);
     let x = Scalars {
         a: 0,
         b: 0,
@@ -1649,7 +1651,7 @@ fn begin_iter(
         g: 0,
         h: 0,
     };
-    allocation::new_with_scalars(
+    making::new_with_scalars(
         heap,
         slots,
         scalars,

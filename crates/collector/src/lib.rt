@@ -98,7 +98,7 @@ fn sweep_slot(
     }
     if marks[i] != 0 {
         let weight = weigh(h, scalars, i, w);
-        let coroutine = heap::coroutine_of(h.kind);
+        let coroutine = heap::placing::coroutine_of(h.kind);
         return Tally {
             free: t.free,
             freed: t.freed,

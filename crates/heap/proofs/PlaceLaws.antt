@@ -399,6 +399,14 @@ module _ {t : State} (g : Good t) (h : Header) (bytes : ℕ) (some-kind : h .kin
       laid-put (g .laid) ((placedRegion t h bytes) .heap .fresh) (nextSlot t) (newHeader t h (t .heap .top) (t .heap .entries)) (omega (arith, m, g .slots-max)) (omega (arith, m, g .slots-fit)) (f .within) (f .old) refl top refl
       (omega (arith, entry, g .directory-fit)) (omega (arith, entry, g .slots-max))
 
+  pub plain-good : Judged t bytes 0 → SlotGood (newRaw 65536 (withRegion h 0 0 0) []) (moreOf t (nextSlot t)) → Good (placedPlain t h bytes)
+  plain-good j fit = placed-good g (withRegion h 0 0 0) 0 0 bytes (t .heap .top) (t .heap .entries) (t .directory) some-kind (j .left) fit (plain-laid (j .left)) refl (j .room)
+
+  pub region-good : Judged t bytes (h .size) → t .heap .top + h .size ≤ length (t .cells) → t .heap .entries < t .heap .size * 2 → SlotGood (newRaw 65536 h (nextRegion t (h .size))) (moreOf t (nextSlot t)) → Good (placedRegion t h bytes)
+  region-good j top entry fit =
+      placed-good g h (t .heap .top) (t .heap .entries) bytes (t .heap .top + h .size) (t .heap .entries + 1) (set (t .directory) (t .heap .entries) (nextSlot t)) some-kind (j .left) fit (region-laid (j .left) top entry)
+      (length-set (t .directory) (t .heap .entries) (nextSlot t)) (j .room)
+
   module _ (l : Layout) (k : Call) {n : ℕ} {x : Lent} (charge-is : (terms (modelOf l t) k) .charge ≡ some n) (bytes-are : bytes ≡ saturated n) (own : first ((terms (modelOf l t) k) .refusals) ≡ 0)
       (lent-is : (terms (modelOf l t) k) .lent-after ≡ x) where
     pub does-plain : {c : Content} {s : Room} → Judged t bytes 0 → SlotGood (newRaw 65536 (withRegion h 0 0 0) []) (moreOf t (nextSlot t)) → effect (viewOf (modelOf l t)) k ≡ add c s →

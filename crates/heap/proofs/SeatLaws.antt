@@ -1,6 +1,6 @@
 -- The answers of judge_new and of the functions that place a new object. Assumes nothing.
 use Prim.Native.Nat.{ℕ, _+_, _*_, _-_, _≤_, _<_}
-use mathlib.Core.Path.{_≡_, ap, sym, _∙_}
+use mathlib.Core.Path.{_≡_, ap, subst, sym, _∙_}
 use mathlib.Core.Bool.{true, false, not, _||_}
 use mathlib.Core.List.{List}
 use native.Mathlib.Omega.{arith}
@@ -25,9 +25,9 @@ use Rattle.heap.specs.declared.Done.the-variants.{Accepted, Refused}
 use Rattle.heap.specs.declared.Refusal.the-variants as No
 use Rattle.heap.specs.State.{State, state, withRegions}
 use Rattle.heap.specs.Good.{Good, coroutineOf}
-use Rattle.heap.specs.Placing.{Seatable, Seats, flagOf, judgedNew, newWord, nextSlot, placedPlain, placedRegion}
+use Rattle.heap.specs.Placing.{PlacesPlain, PlacesRegion, PlainObject, RegionObject, Seatable, Seats, flagOf, judgedNew, nextSlot, placedPlain, placedRegion}
 use Rattle.heap.proofs.CallLaws.{charge-not, charge-so}
-use Rattle.heap.proofs.PlaceLaws.{coroutine-max, judged-accepted}
+use Rattle.heap.proofs.PlaceLaws.{coroutine-max, judged-accepted, plain-good, region-good}
 
 -- ---- judge_new
 
@@ -126,10 +126,17 @@ seats h {s} {list = list} bytes hd {t = t} e f o p q w =
 
 -- ---- the states after placing
 
-pub plain-state : (t : State) (hd : Header) {bytes : ℕ} {r : Made} {s′ : List ℕ} → Seats (t .heap) (t .slots) (t .list) (withRegion hd 0 0 0) bytes r s′ →
-    (state (r .heap) s′ (t .scalars) (t .list) (t .directory) (t .cells) ≡ placedPlain t hd bytes) × (r .answer ≡ Is (newWord t (hd .kind)))
-plain-state t hd w = (rw (w .heap, w .slots), w .answer)
+pub plain-state : {t : State} (hd : Header) {bytes : ℕ} {r : Made} {s′ : List ℕ} → Good t → judgedNew (t .heap) (length (t .cells)) bytes 0 ≡ Accepted → PlainObject t hd →
+    Seats (t .heap) (t .slots) (t .list) (withRegion hd 0 0 0) bytes r s′ → PlacesPlain t hd bytes (r .answer) (state (r .heap) s′ (t .scalars) (t .list) (t .directory) (t .cells))
+plain-state {t} hd {bytes} {r} {s′} g j o w =
+    let e : state (r .heap) s′ (t .scalars) (t .list) (t .directory) (t .cells) ≡ placedPlain t hd bytes = rw (w .heap, w .slots) in
+    record { after = e; answer = w .answer; good = subst Good (sym e) (plain-good g hd bytes (o .some-kind) (judged-accepted t bytes 0 j) (o .fit)) }
 
-pub region-state : (t : State) (hd : Header) {bytes slot : ℕ} {r : Made} {s′ : List ℕ} → Seats (t .heap) (t .slots) (t .list) (withRegion hd (hd .size) (t .heap .top) (t .heap .entries)) bytes r s′ → slot ≡ nextSlot t →
-    (state (withRegions (r .heap) (r .heap .account) (t .heap .top + hd .size) (t .heap .entries + 1) (r .heap .taken)) s′ (t .scalars) (t .list) (set (t .directory) (t .heap .entries) slot) (t .cells) ≡ placedRegion t hd bytes) × (r .answer ≡ Is (newWord t (hd .kind)))
-region-state t hd w e = (rw (w .heap, w .slots, e), w .answer)
+pub region-state : {t : State} (hd : Header) {bytes slot : ℕ} {r : Made} {s′ : List ℕ} → Good t → judgedNew (t .heap) (length (t .cells)) bytes (hd .size) ≡ Accepted → t .heap .top + hd .size ≤ length (t .cells) →
+    t .heap .entries < t .heap .size * 2 → RegionObject t hd → Seats (t .heap) (t .slots) (t .list) (withRegion hd (hd .size) (t .heap .top) (t .heap .entries)) bytes r s′ → slot ≡ nextSlot t →
+    PlacesRegion t hd bytes (r .answer)
+    (state (withRegions (r .heap) (r .heap .account) (t .heap .top + hd .size) (t .heap .entries + 1) (r .heap .taken)) s′ (t .scalars) (t .list) (set (t .directory) (t .heap .entries) slot) (t .cells))
+region-state {t} hd {bytes} {slot} {r} {s′} g j top entry o w n =
+    let e : state (withRegions (r .heap) (r .heap .account) (t .heap .top + hd .size) (t .heap .entries + 1) (r .heap .taken)) s′ (t .scalars) (t .list) (set (t .directory) (t .heap .entries) slot) (t .cells) ≡ placedRegion t hd bytes =
+    rw (w .heap, w .slots, n) in
+    record { after = e; answer = w .answer; good = subst Good (sym e) (region-good g hd bytes (o .some-kind) (judged-accepted t bytes (hd .size) j) top entry (o .fit)) }

@@ -2,23 +2,26 @@
 use Prim.Native.Nat.{ℕ, _+_, _-_, _*_, _≤_, _<_}
 use mathlib.Core.Path.{_≡_}
 use mathlib.Core.Bool.{cond, not, true, _||_}
-use mathlib.Core.List.{List}
+use mathlib.Core.List.{List, []}
+use mathlib.Core.Logic.{_≢_}
 use lib.Dec.{eqb, leb, ltb}
 use lib.ListN.{length, set, take, drop}
 use Rattle.account.specs.Account.{charged, fits}
 use Rattle.slots.specs.Header.{setHeader, withHalf, withRegion}
 use Rattle.slots.specs.FreeList.{Listed, takenHalf, takenSlot}
 use Rattle.slots.specs.declared.Header.{Header}
+use Rattle.slots.specs.declared.Scalars.{Scalars}
 use Rattle.cells.specs.Regions.{Raw}
 use Rattle.layout.specs.Layout.{Layout}
 use Rattle.heap.specs.declared.Heap.{Heap}
 use Rattle.heap.specs.declared.Made.{Made}
+use Rattle.heap.specs.declared.Reading.{Reading}
 use Rattle.heap.specs.declared.Reading.the-variants.{Is}
 use Rattle.heap.specs.declared.Done.{Done}
 use Rattle.heap.specs.declared.Done.the-variants.{Accepted, Refused}
 use Rattle.heap.specs.declared.Refusal.the-variants.{NoCells, NoSlot, OverBudget}
-use Rattle.heap.specs.State.{State, modelOf, withRegions}
-use Rattle.heap.specs.Good.{Good, coroutineOf}
+use Rattle.heap.specs.State.{State, modelOf, moreOf, withRegions}
+use Rattle.heap.specs.Good.{Good, SlotGood, coroutineOf}
 
 -- 5, 6, 7, in this order: a charge of `bytes`, and `size` more of the `total` cells
 unfoldable pub judgedNew : Heap → ℕ → ℕ → ℕ → Done
@@ -92,6 +95,31 @@ placedRegion t h bytes = record {
 -- the cells that its region will have
 abbrev pub nextRegion : State → ℕ → List ℕ
 nextRegion t size = take size (drop (t .heap .top) (t .cells))
+
+-- a header is an object's, with these cells and scalars: its slot is as `Good` has it, whatever the tag
+pub record Object (h : Header) (region : List ℕ) (x : Scalars) : Type 0 where
+  pub some-kind : h .kind ≢ 0
+  pub fit : SlotGood (newRaw 65536 h region) x
+
+-- with the scalars of the next slot, and no cells
+abbrev pub PlainObject : State → Header → Type 0
+PlainObject t h = Object (withRegion h 0 0 0) [] (moreOf t (nextSlot t))
+
+-- with the scalars of the next slot, and the cells at the top
+abbrev pub RegionObject : State → Header → Type 0
+RegionObject t h = Object h (nextRegion t (h .size)) (moreOf t (nextSlot t))
+
+-- the object is placed under the reference w; what holds between calls holds again
+pub record Places (next : State) (w : ℕ) (r : Reading) (a : State) : Type 0 where
+  pub after : a ≡ next
+  pub answer : r ≡ Is w
+  pub good : Good a
+
+abbrev pub PlacesPlain : State → Header → ℕ → Reading → State → Type 0
+PlacesPlain t h bytes r a = Places (placedPlain t h bytes) (newWord t (h .kind)) r a
+
+abbrev pub PlacesRegion : State → Header → ℕ → Reading → State → Type 0
+PlacesRegion t h bytes r a = Places (placedRegion t h bytes) (newWord t (h .kind)) r a
 
 -- from b to a no object has changed, and there is room for a region of `size` cells at the top
 pub record Roomy (b a : State) (size : ℕ) : Type 0 where

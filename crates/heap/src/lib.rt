@@ -1,34 +1,29 @@
-// The heap: its record, its invariant, opening, the lookup of words, and the placing of new objects.
+// The heap: its record, its invariant, opening, and the calls on the whole heap. What other crates
+// build their calls on stands apart: `lookup`, `placing`, `resting`.
+pub mod lookup;
+pub mod placing;
+pub mod resting;
+
 ghost use mathlib.Core.Path.{_≡_};
 ghost use mathlib.Core.List.{[]};
-ghost use Prim.Native.Nat.{_+_, _*_, _≤_, _<_};
+ghost use Prim.Native.Nat.{_≤_};
 ghost use lib.ListN.{length};
 ghost use Rattle.model.specs.Calls as Calls;
 ghost use Rattle.model.specs.Replies.{nothing, number, truth};
 ghost use Rattle.heap.specs.Answers.{answered, doneIs, kindNumber, numberOf};
 ghost use Rattle.heap.specs.State.{state};
-ghost use Rattle.heap.specs.Good.{Good, coroutineOf};
-ghost use Rattle.slots.specs.FreeList.{takenSlot};
-ghost use Rattle.heap.specs.declared.Done.the-variants.{Accepted};
-ghost use Rattle.heap.specs.declared.Reading.the-variants.{Is};
-ghost use Rattle.heap.specs.Placing.{Roomy, Seatable, Seats, flagOf, judgedNew, newWord, placedPlain, placedRegion};
+ghost use Rattle.heap.specs.Good.{Good};
 ghost use Rattle.model.specs.Opening.{between, sizesFit};
-ghost use Rattle.heap.specs.Opens.{Opens, beside, cleared, newHeap, openingOf, roomFor, weightsFit};
+ghost use Rattle.heap.specs.Opens.{Opens, beside, newHeap, openingOf, roomFor, weightsFit};
 ghost use Rattle.heap.specs.Promise.{Performs, Reads};
-ghost use Rattle.heap.specs.Locating.{Locates, Ranks};
 use account::Account;
 use account::Charged;
-use cells::Top;
 use layout::Checked;
 use model::Weights;
-use slots::Found;
-use slots::Header;
 use words::Raw;
 
-// The rows of a box and of a coroutine in the table of kinds.
+// The row of a box in the table of kinds.
 const BOX: u64 = 5;
-
-const COROUTINE: u64 = 11;
 
 // size: slots; fresh: slots ever used; free: length of the free list; top: regions of the cells lie
 // below it; entries: length of the directory; taken: cells in use; present: objects present;
@@ -144,39 +139,6 @@ pub enum Located {
     Refused(Refusal),
 }
 
-// The slot of the object of this kind that a word reaches; else 1 or 2.
-pub fn locate(slots: &[u64], fresh: u64, w: u64, kind: u64) -> Located
-    requires { ⌜ (fresh ≤ 65536) × (fresh * 8 ≤ length (now slots)) ⌝ }
-    ensures { λ r. ⌜ Locates (now (slots .entry)) fresh w kind r ⌝ }
-{
-    match slots::find(slots, fresh, w) {
-        Found::Nothing => Located::Refused(Refusal::ReachesNothing),
-        Found::Wrong => Located::Refused(Refusal::OtherKind),
-        Found::At(i) => {
-            let h = slots::read_header(slots, i);
-            if h.kind == kind {
-                return Located::At(i);
-            }
-            Located::Refused(Refusal::OtherKind)
-        }
-    }
-}
-
-// The row of the object that a word reaches, 0 for none.
-pub fn row_at(slots: &[u64], fresh: u64, w: u64) -> u64
-    requires { ⌜ (fresh ≤ 65536) × (fresh * 8 ≤ length (now slots)) ⌝ }
-    ensures { λ r. ⌜ Ranks (now (slots .entry)) fresh w r ⌝ }
-{
-    match slots::find(slots, fresh, w) {
-        Found::Nothing => 0,
-        Found::Wrong => 0,
-        Found::At(i) => {
-            let h = slots::read_header(slots, i);
-            h.kind
-        }
-    }
-}
-
 // The row of the object that a word reaches, 0 for none.
 pub fn get(
     heap: Heap,
@@ -190,7 +152,7 @@ pub fn get(
     requires { ⌜ Good (state heap (now slots) (now scalars) (now list) (now directory) (now cells)) ⌝ }
     ensures { λ r. ⌜ Reads (Calls.get w) (state heap (now (slots .entry)) (now (scalars .entry)) (now (list .entry)) (now (directory .entry)) (now (cells .entry))) (answered (number r)) ⌝ }
 {
-    row_at(slots, heap.fresh, w)
+    lookup::row_at(slots, heap.fresh, w)
 }
 
 // A word seen through a box: one that reaches nothing gives nil.
@@ -209,7 +171,7 @@ pub fn deref(
     if !words::is_box(w) {
         return w;
     }
-    match locate(slots, heap.fresh, w, BOX) {
+    match lookup::locate(slots, heap.fresh, w, BOX) {
         Located::Refused(q) => words::NIL,
         Located::At(i) => {
             let h = slots::read_header(slots, i);
@@ -258,7 +220,7 @@ pub fn kind_of(
         Raw::Int(z) => Kind::Integer,
         Raw::Float(x) => Kind::Float,
         Raw::Char(c) => Kind::Character,
-        Raw::Ref(slot, tag) => kind_at(row_at(slots, heap.fresh, w)),
+        Raw::Ref(slot, tag) => kind_at(lookup::row_at(slots, heap.fresh, w)),
     }
 }
 
@@ -402,163 +364,6 @@ pub fn cells_in_use(
     heap.taken
 }
 
-// 5, 6, 7, in this order: a charge of `bytes`, and `size` more of the `total` cells.
-pub fn judge_new(heap: Heap, total: u64, bytes: u64, size: u64) -> Done
-    ensures { λ r. ⌜ r ≡ judgedNew heap total bytes size ⌝ }
-{
-    let account = heap.account;
-    if !account.allows(bytes) {
-        return Done::Refused(Refusal::OverBudget);
-    }
-    if heap.free == 0 {
-        if heap.size <= heap.fresh {
-            return Done::Refused(Refusal::NoSlot);
-        }
-    }
-    if total < heap.taken {
-        return Done::Refused(Refusal::NoCells);
-    }
-    if total - heap.taken < size {
-        return Done::Refused(Refusal::NoCells);
-    }
-    Done::Accepted
-}
-
-// The slot that the next object takes.
-pub fn next_slot(list: &[u64], fresh: u64, free: u64) -> u64
-    requires { ⌜ free ≤ length (now list) ⌝ }
-    ensures { λ r. ⌜ r ≡ takenSlot (now (list .entry)) fresh free ⌝ }
-{
-    if free == 0 {
-        return fresh;
-    }
-    let last = (free - 1) as usize;
-    list[last]
-}
-
-// The box flag stands in a box's reference only.
-fn flag_of(kind: u64) -> u64
-    ensures { λ r. ⌜ r ≡ flagOf kind ⌝ }
-{
-    if kind == BOX { 32768 } else { 0 }
-}
-
-// 1 for a coroutine.
-pub fn coroutine_of(kind: u64) -> u64
-    ensures { λ r. ⌜ r ≡ coroutineOf kind ⌝ }
-{
-    if kind == COROUTINE { 1 } else { 0 }
-}
-
-// The header in the next slot, under the next object's tag.
-fn seat(heap: Heap, slots: &mut [u64], list: &[u64], header: Header, bytes: u64) -> Made
-    requires { ⌜ Seatable heap (now slots) (now list) bytes (header .size) ⌝ }
-    ensures { λ r. ⌜ Seats heap (now (slots .entry)) (now (list .entry)) header bytes r (now (slots .exit)) ⌝ }
-{
-    let account = heap.account;
-    let Charged::Next(next) = account.charge(bytes) else {
-        return Made {
-            heap,
-            answer: Reading::Refused(Refusal::OverBudget),
-        };
-    };
-    let t = slots::take_slot(slots, list, heap.fresh, heap.free, flag_of(header.kind));
-    let mut new = header;
-    new.half = t.half;
-    slots::write_header(slots, t.slot as usize, new);
-    let mut h = heap;
-    h.account = next;
-    h.fresh = t.fresh;
-    h.free = t.free;
-    h.taken = heap.taken + header.size;
-    h.present = heap.present + 1;
-    h.coroutines = heap.coroutines + coroutine_of(header.kind);
-    Made {
-        heap: h,
-        answer: Reading::Is(t.half * 4294967296 + t.slot),
-    }
-}
-
-// A new object without cells, once judged: kind, value, mode and len are the header's.
-pub fn place_plain(
-    heap: Heap,
-    slots: &mut [u64],
-    scalars: &[u64],
-    list: &[u64],
-    directory: &[u64],
-    cells: &[u64],
-    header: Header,
-    bytes: u64,
-) -> Made
-    requires { ⌜ Good (state heap (now slots) (now scalars) (now list) (now directory) (now cells)) × (judgedNew heap (length (now cells)) bytes 0 ≡ Accepted) ⌝ }
-    ensures { λ r. ⌜ (state (r .heap) (now (slots .exit)) (now (scalars .entry)) (now (list .entry)) (now (directory .entry)) (now (cells .entry)) ≡ placedPlain (state heap (now (slots .entry)) (now (scalars .entry)) (now (list .entry)) (now (directory .entry)) (now (cells .entry))) header bytes) × (r .answer ≡ Is (newWord (state heap (now (slots .entry)) (now (scalars .entry)) (now (list .entry)) (now (directory .entry)) (now (cells .entry))) (header .kind))) ⌝ }
-{
-    let mut new = header;
-    new.size = 0;
-    new.start = 0;
-    new.entry = 0;
-    seat(heap, slots, list, new, bytes)
-}
-
-// A new object whose region, `header.size` cells at the top, the caller has filled.
-pub fn place_region(
-    heap: Heap,
-    slots: &mut [u64],
-    scalars: &[u64],
-    list: &[u64],
-    directory: &mut [u64],
-    cells: &[u64],
-    header: Header,
-    bytes: u64,
-) -> Made
-    requires { ⌜ Good (state heap (now slots) (now scalars) (now list) (now directory) (now cells)) × (judgedNew heap (length (now cells)) bytes (header .size) ≡ Accepted) × (heap .top + header .size ≤ length (now cells)) × (heap .entries < heap .size * 2) ⌝ }
-    ensures { λ r. ⌜ (state (r .heap) (now (slots .exit)) (now (scalars .entry)) (now (list .entry)) (now (directory .exit)) (now (cells .entry)) ≡ placedRegion (state heap (now (slots .entry)) (now (scalars .entry)) (now (list .entry)) (now (directory .entry)) (now (cells .entry))) header bytes) × (r .answer ≡ Is (newWord (state heap (now (slots .entry)) (now (scalars .entry)) (now (list .entry)) (now (directory .entry)) (now (cells .entry))) (header .kind))) ⌝ }
-{
-    let at = heap.entries as usize;
-    directory[at] = next_slot(list, heap.fresh, heap.free);
-    let mut new = header;
-    new.start = heap.top;
-    new.entry = heap.entries;
-    let made = seat(heap, slots, list, new, bytes);
-    let mut h = made.heap;
-    h.top = heap.top + header.size;
-    h.entries = heap.entries + 1;
-    let answer = made.answer;
-    Made { heap: h, answer }
-}
-
-// Room for a region of `size` cells at the top; regions may move.
-pub fn make_room(
-    heap: Heap,
-    slots: &mut [u64],
-    scalars: &[u64],
-    list: &[u64],
-    directory: &mut [u64],
-    cells: &mut [u64],
-    size: u64,
-) -> Heap
-    requires { ⌜ Good (state heap (now slots) (now scalars) (now list) (now directory) (now cells)) × (heap .taken + size ≤ length (now cells)) ⌝ }
-    ensures { λ r. ⌜ Roomy (state heap (now (slots .entry)) (now (scalars .entry)) (now (list .entry)) (now (directory .entry)) (now (cells .entry))) (state r (now (slots .exit)) (now (scalars .entry)) (now (list .entry)) (now (directory .exit)) (now (cells .exit))) size ⌝ }
-{
-    let before = Top {
-        cells: heap.top,
-        entries: heap.entries,
-    };
-    let t = cells::reserve(
-        slots,
-        heap.fresh,
-        directory,
-        heap.size * 2,
-        before,
-        cells,
-        size,
-    );
-    let mut h = heap;
-    h.top = t.cells;
-    h.entries = t.entries;
-    h
-}
-
 fn weight_fits(w: u64) -> bool
     ensures { λ r. ⌜ r ≡ between 1 w 4096 ⌝ }
 {
@@ -634,29 +439,6 @@ fn has_room(
     n * 2 <= order
 }
 
-// The first n marks, and the first n places of the order, become 0.
-pub fn clear_marks(marks: &mut [u8], n: usize)
-    requires { ⌜ n ≤ length (now marks) ⌝ }
-    ensures { λ r. ⌜ now (marks .exit) ≡ cleared (now (marks .entry)) n ⌝ }
-{
-    let mut i: usize = 0;
-    while i < n {
-        marks[i] = 0;
-        i += 1;
-    }
-}
-
-pub fn clear_order(order: &mut [u32], n: usize)
-    requires { ⌜ n ≤ length (now order) ⌝ }
-    ensures { λ r. ⌜ now (order .exit) ≡ cleared (now (order .entry)) n ⌝ }
-{
-    let mut i: usize = 0;
-    while i < n {
-        order[i] = 0;
-        i += 1;
-    }
-}
-
 // The record of a heap without objects.
 fn new_heap(size: u64, limit: u64, weights: Weights) -> Heap
     ensures { λ r. ⌜ r ≡ newHeap size limit weights ⌝ }
@@ -714,8 +496,8 @@ pub fn open(
         Checked::Refused => Opened::Refused(Refusal::BadOpening),
         Checked::Accepted => {
             let n = size as usize;
-            clear_marks(marks, n);
-            clear_order(order, n * 2);
+            resting::clear_marks(marks, n);
+            resting::clear_order(order, n * 2);
             Opened::Ready(new_heap(size, limit, weights))
         }
     }

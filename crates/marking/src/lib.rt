@@ -696,6 +696,6 @@ pub fn unmark(marks: &mut [u8], order: &mut [u32], marked: usize)
     ensures { λ r. ⌜ Unmarked (now (marks .entry)) (now (order .entry)) marked (now (marks .exit)) (now (order .exit)) ⌝ }
 {
     let all = marks.len();
-    heap::clear_marks(marks, all);
-    heap::clear_order(order, marked);
+    heap::resting::clear_marks(marks, all);
+    heap::resting::clear_order(order, marked);
 }

@@ -36,7 +36,7 @@ add-at : tie.Need-add-at
 add-at c = let y = prepared-exact (length ((c .before .before .before .before .before .before .before .before .before .before .before .before .before .before .before .before .before .before .before .before .before .before .before .before .before .args .registers) .now) + 4 * (c .before .before .before .before .before .before .before .before .before .before .before .before .before .before .before .before .before .before .before .before .before .before .before .before .before .args .frames)) (c .before .before .before .before .before .before .before .before .before .before .before .before .before .before .before .before .before .before .before .before .before .before .before .before .before .pre) (c .before .before .before .before .before .before .before .before .before .before .before .before .before .before .coroutine-cells .ensures) (c .before .before .before .before .before .before .before .before .before .prepare .ensures) .accepted ((c .enum-told .given) .1) .placeable in record { fits = omega (arith, y .region, y .good .laid .cells-max) }
 
 place-coroutine-requires : tie.Need-place-coroutine-requires
-place-coroutine-requires c κs = ((c .before .before .before .before .before .before .before .before .before .before .before .before .before .prepare .ensures) .accepted ((c .before .before .before .before .enum-told .given) .1) .placeable, omega (arith, accepted-size (length ((c .before .before .before .before .before .before .before .before .before .before .before .before .before .before .before .before .before .before .before .before .before .before .before .before .before .before .before .before .before .args .registers) .now) + 4 * (c .before .before .before .before .before .before .before .before .before .before .before .before .before .before .before .before .before .before .before .before .before .before .before .before .before .before .before .before .before .args .frames)) (c .before .before .before .before .before .before .before .before .before .before .before .before .before .before .before .before .before .before .coroutine-cells .ensures) (c .before .before .before .before .before .before .before .before .before .before .before .before .before .prepare .ensures) ((c .before .before .before .before .enum-told .given) .1)))
+place-coroutine-requires c κs = ((c .before .before .before .before .before .before .before .before .before .before .before .before .before .prepare .ensures) .accepted ((c .before .before .before .before .enum-told .given) .1) .placeable, accepted-size (length ((c .before .before .before .before .before .before .before .before .before .before .before .before .before .before .before .before .before .before .before .before .before .before .before .before .before .before .before .before .before .args .registers) .now) + 4 * (c .before .before .before .before .before .before .before .before .before .before .before .before .before .before .before .before .before .before .before .before .before .before .before .before .before .before .before .before .before .args .frames)) (c .before .before .before .before .before .before .before .before .before .before .before .before .before .before .before .before .before .before .coroutine-cells .ensures) (c .before .before .before .before .before .before .before .before .before .before .before .before .before .prepare .ensures) ((c .before .before .before .before .enum-told .given) .1))
 
 same-length : tie.Need-same-length
 same-length c = search needs

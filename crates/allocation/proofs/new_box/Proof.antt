@@ -1,5 +1,6 @@
 -- `allocation::new_box` meets its contract. Assumes nothing.
-use Rattle.allocation.proofs.PlainLaws.{box-made}
+use Rattle.allocation.proofs.PlainLaws.{box-made, four-object}
+use native.Mathlib.Omega.{arith}
 use borrow.Author.Needs.{needs}
 use Rattle.allocation.proofs.new_box.Statement.{statement}
 use Rattle.allocation.proofs.new_box.Tie as tie
@@ -8,7 +9,10 @@ header-requires : tie.Need-header-requires
 header-requires c κs = search needs
 
 new-plain-requires : tie.Need-new-plain-requires
-new-plain-requires c κs = search needs
+new-plain-requires c κs =
+    let at-header : tie.After-header = search in
+    let start : tie.Start = search in
+    (start .pre, four-object 5 _ 0 (omega arith) (omega arith) (at-header .header .ensures))
 
 same-length : tie.Need-same-length
 same-length c = search needs

@@ -1,6 +1,7 @@
 -- `allocation::new_integer` meets its contract. Assumes nothing.
 use mir.Facts.{toZ-ofZ}
-use Rattle.allocation.proofs.PlainLaws.{integer-made}
+use Rattle.allocation.proofs.PlainLaws.{four-object, integer-made}
+use native.Mathlib.Omega.{arith}
 use borrow.Author.Needs.{needs}
 use Rattle.allocation.proofs.new_integer.Statement.{statement}
 use Rattle.allocation.proofs.new_integer.Tie as tie
@@ -12,7 +13,10 @@ header-requires : tie.Need-header-requires
 header-requires c κs = search needs
 
 new-plain-requires : tie.Need-new-plain-requires
-new-plain-requires c κs = search needs
+new-plain-requires c κs =
+    let at-header : tie.After-header = search in
+    let start : tie.Start = search in
+    (start .pre, four-object 2 _ 0 (omega arith) (omega arith) (at-header .header .ensures))
 
 same-length : tie.Need-same-length
 same-length c = search needs

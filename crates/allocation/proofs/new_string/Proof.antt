@@ -1,7 +1,7 @@
 -- `allocation::new_string` meets its contract. Assumes nothing.
-use mathlib.Core.Path.{_∙_}
-use Rattle.allocation.proofs.MakeLaws.{ready-cells}
-use Rattle.allocation.proofs.RegionLaws.{above-written, string-made, string-refused, string-size}
+use mathlib.Core.Path.{_∙_, refl}
+use Rattle.allocation.proofs.MakeLaws.{region-ready}
+use Rattle.allocation.proofs.RegionLaws.{above-written, string-made, string-object, string-refused, string-size}
 use borrow.Author.Needs.{needs}
 use Rattle.allocation.proofs.new_string.Statement.{statement}
 use Rattle.allocation.proofs.new_string.Tie as tie
@@ -31,7 +31,12 @@ header-requires : tie.Need-header-requires
 header-requires c κs = search needs
 
 finish-requires : tie.Need-finish-requires
-finish-requires c κs = rw (c .before .before .before .header .ensures) (ready-cells ((c .before .before .before .before .before .before .before .before .before .before .before .before .before .before .before .before .before .prepare .ensures) .accepted ((c .before .before .before .before .before .before .before .before .enum-told .given) .1)) (above-written (c .before .before .before .before .before .before .write-string .ensures)) .placeable)
+finish-requires c κs =
+    let at-header : tie.After-header = search in
+    let at-write : tie.After-write-string = search in
+    let at-told : tie.After-enum-told = search in
+    let at-prepare : tie.After-prepare = search in
+    rw (at-header .header .ensures) (region-ready ((at-prepare .prepare .ensures) .accepted ((at-told .enum-told .given) .1)) (above-written (at-write .write-string .ensures)) refl (string-object _ (string-size _)))
 
 same-length : tie.Need-same-length
 same-length c = search needs

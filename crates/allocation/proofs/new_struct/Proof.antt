@@ -1,11 +1,14 @@
 -- `allocation::new_struct` meets its contract. Assumes nothing.
-use Rattle.allocation.proofs.RegionLaws.{struct-made}
+use Rattle.allocation.proofs.RegionLaws.{struct-made, words-object}
+use native.Mathlib.Omega.{arith}
 use borrow.Author.Needs.{needs}
 use Rattle.allocation.proofs.new_struct.Statement.{statement}
 use Rattle.allocation.proofs.new_struct.Tie as tie
 
 new-words-requires : tie.Need-new-words-requires
-new-words-requires c κs = search needs
+new-words-requires c κs =
+    let start : tie.Start = search in
+    (start .pre, words-object 8 _ _ _ _ (omega arith) (omega arith) (λ z. absurd (omega (arith, z))))
 
 same-length : tie.Need-same-length
 same-length c = search needs
@@ -17,7 +20,7 @@ same-length-3 : tie.Need-same-length-3
 same-length-3 c = search needs
 
 returns : tie.Need-returns
-returns c = struct-made (c .before .before .before .before .before .before .before .before .before .before .before .before .before .before .before .before .pre) (c .before .before .before .before .before .before .new-words .ensures)
+returns c = struct-made (c .before .before .before .before .before .before .before .before .before .before .before .before .before .before .before .before .pre) ((c .before .before .before .before .before .before .new-words .ensures) .0)
 
 pub new-struct-spec : {M : Type 1} → statement M
 new-struct-spec =

@@ -1,6 +1,6 @@
 -- `allocation::place_coroutine` meets its contract. Assumes nothing.
 use Rattle.allocation.proofs.MakeLaws.{next-fits}
-use Rattle.allocation.proofs.CoroutineLaws.{seated, seated-placeable}
+use Rattle.allocation.proofs.CoroutineLaws.{seated, seated-object, seated-placeable}
 use Rattle.allocation.specs.Coroutines.{scalarsFor}
 use mathlib.Core.Path.{refl}
 use borrow.Author.Needs.{needs}
@@ -20,13 +20,23 @@ header-requires : tie.Need-header-requires
 header-requires c κs = search needs
 
 finish-requires : tie.Need-finish-requires
-finish-requires c κs = rw (c .before .before .before .before .header .ensures) (seated-placeable (scalarsFor (c .before .before .before .before .before .before .before .before .before .before .before .before .before .before .before .before .before .before .before .before .args .k) (c .before .before .before .before .before .before .before .before .before .before .before .before .before .before .before .before .before .before .before .before .args .frames)) ((c .before .before .before .before .before .before .before .before .before .before .before .before .before .before .before .before .before .before .before .before .pre) .0) (c .before .before .before .before .before .before .before .before .before .before .before .before .before .next-slot .ensures) (c .before .before .before .before .before .before .before .before .before .before .before .write-scalars .ensures) (c .before .before .before .before .before .before .before .copy-words .ensures))
+finish-requires c κs =
+    let at-header : tie.After-header = search in
+    let at-copy : tie.After-copy-words = search in
+    let at-write : tie.After-write-scalars = search in
+    let at-next : tie.After-next-slot = search in
+    let start : tie.Start = search in
+    let y = (start .pre) .0 in
+    let k = start .args .k in
+    let next = at-next .next-slot .ensures in
+    let w = at-write .write-scalars .ensures in
+    rw (at-header .header .ensures) (seated-placeable (scalarsFor k (start .args .frames)) y next w (at-copy .copy-words .ensures), seated-object k _ (start .args .frames) _ y ((start .pre) .1) next w)
 
 same-length : tie.Need-same-length
 same-length c = search needs
 
 same-length-2 : tie.Need-same-length-2
-same-length-2 c = search needs
+same-length-2 c = let at-scalars : tie.After-scalars = search in at-scalars .scalars .given
 
 same-length-3 : tie.Need-same-length-3
 same-length-3 c = search needs

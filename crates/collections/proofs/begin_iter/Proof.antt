@@ -1,4 +1,5 @@
 -- `collections::begin_iter` meets its contract. Assumes nothing.
+use Rattle.collections.proofs.BeginLaws.{iterator-object}
 use borrow.Author.Needs.{needs}
 use Rattle.collections.proofs.begin_iter.Statement.{statement}
 use Rattle.collections.proofs.begin_iter.Tie as tie
@@ -10,7 +11,10 @@ add-new-with-scalars : tie.Need-add-new-with-scalars
 add-new-with-scalars c = search needs
 
 new-with-scalars-requires : tie.Need-new-with-scalars-requires
-new-with-scalars-requires c κs = search needs
+new-with-scalars-requires c κs =
+    let at-header : tie.After-header = search in
+    let start : tie.Start = search in
+    (start .pre, iterator-object (start .args .source) (start .args .keys) (at-header .header .ensures))
 
 same-length : tie.Need-same-length
 same-length c = search needs

@@ -1,5 +1,5 @@
 -- `collections::new_map` meets its contract. Assumes nothing.
-use Rattle.collections.proofs.BeginLaws.{keys-refused, map-made, values-refused}
+use Rattle.collections.proofs.BeginLaws.{empty-object, keys-refused, map-made, values-refused}
 use borrow.Author.Needs.{needs}
 use Rattle.collections.proofs.new_map.Statement.{statement}
 use Rattle.collections.proofs.new_map.Tie as tie
@@ -14,7 +14,10 @@ header-requires : tie.Need-header-requires
 header-requires c κs = search needs
 
 new-with-scalars-requires : tie.Need-new-with-scalars-requires
-new-with-scalars-requires c κs = search needs
+new-with-scalars-requires c κs =
+    let at-header : tie.After-header = search in
+    let start : tie.Start = search in
+    (start .pre, empty-object (start .args .keys) (start .args .values) (at-header .header .ensures))
 
 same-length : tie.Need-same-length
 same-length c = search needs

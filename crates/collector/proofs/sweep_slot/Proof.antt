@@ -11,7 +11,7 @@ use Rattle.collector.proofs.sweep_slot.Reads as reads
 use Rattle.collector.proofs.sweep_slot.Lts as lts
 use Rattle.collector.proofs.empty.Reads as empty-reads
 use Rattle.collector.proofs.weigh.Reads as weigh-reads
-use Rattle.heap.proofs.coroutine_of.Reads as coroutine-of-reads
+use Rattle.heap.proofs.placing.coroutine_of.Reads as coroutine-of-reads
 use Rattle.slots.proofs.read_header.Reads as read-header-reads
 use Rattle.slots.proofs.write_header.Reads as write-header-reads
 
