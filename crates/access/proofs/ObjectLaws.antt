@@ -9,6 +9,7 @@ use lib.Dec.{eqb}
 use lib.ListN.{getD, length, set}
 use Rattle.slots.specs.Header.{headerAt}
 use Rattle.slots.specs.Lookup.{Finds, hitFirst}
+use Rattle.slots.proofs.LookupLaws.{finds-so}
 use Rattle.slots.specs.declared.Header.{Header}
 use Rattle.slots.specs.declared.Found.{Found}
 use Rattle.slots.specs.declared.Found.the-variants as F
@@ -66,7 +67,7 @@ here-by F.Wrong d x = absurd (at-refused (sym x))
 
 pub located-here : {s : List ℕ} {n w kind i : ℕ} {r : Located} → Locates s n w kind r → r ≡ L.At i → Here s n kind i
 unfolding locatedIn
-located-here {s} {n} {w} d e = here-by (hitFirst s n w) record { is = refl } (sym (d .is) ∙ e)
+located-here {s} {n} {w} d e = here-by (hitFirst s n w) (finds-so refl) (sym (d .is) ∙ e)
 
 -- its words lie in a buffer of eight for each slot
 pub located-words : {s : List ℕ} {n w kind i : ℕ} {r : Located} → Locates s n w kind r → r ≡ L.At i → (x : List ℕ) → n ≤ 65536 → n * 8 ≤ length x → (i < 65536) × (i * 8 + 8 ≤ length x)

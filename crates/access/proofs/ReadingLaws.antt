@@ -19,6 +19,7 @@ use Rattle.model.specs.Replies.{Reply, no-memory, number}
 use Rattle.model.specs.Model.{Model, viewOf}
 use Rattle.model.specs.Refusals.{inside, target}
 use Rattle.model.specs.Terms.{a-coroutine, a-function, a-struct, an-array, captures, fields, items, registers, terms, uncharged}
+use Rattle.heap.proofs.LocateLaws.{locates-so}
 use Rattle.heap.specs.Answers.{answered, readingIs, refused}
 use Rattle.heap.specs.Locating.{Locates}
 use Rattle.heap.specs.State.{State, modelOf, moreOf, rawOf}
@@ -55,8 +56,8 @@ module _ {t : State} {w kind : ℕ} {is : Content → Bool} (g : Good t) (s : Sa
   unfolding readingIs uncharged
   number-read d e h p =
       by-object (λ (x : Reading). Reads k t (readingIs x)) d
-      (λ q z. reads-refused record { is = refl } {rest = λ l. []} z (λ l. rw (h l)) (λ l. rw (h l)))
-      (λ i z. reads-answered record { is = refl } z e h (λ l o. ap number (p l i o)))
+      (λ q z. reads-refused (locates-so refl) {rest = λ l. []} z (λ l. rw (h l)) (λ l. rw (h l)))
+      (λ i z. reads-answered (locates-so refl) z e h (λ l o. ap number (p l i o)))
 
 -- ---- the words in an object's cells
 
@@ -116,9 +117,9 @@ module _ {t : State} {w kind : ℕ} {is : Content → Bool} {ws : Model → ℕ 
   unfolding readingIs uncharged wordAt
   word-read p d h =
       by-object (λ (x : Reading). Reads k t (readingIs x)) d
-      (λ q z. reads-refused g (v .says) k record { is = refl } {rest = λ l. inside p (length (ws (modelOf l t) w)) ∷ []} z (λ l. rw (h l)) (λ l. rw (h l)))
+      (λ q z. reads-refused g (v .says) k (locates-so refl) {rest = λ l. inside p (length (ws (modelOf l t) w)) ∷ []} z (λ l. rw (h l)) (λ l. rw (h l)))
       (λ i z l.
-      let o = located-at g record { is = refl } z in
+      let o = located-at g (locates-so refl) z in
       let n = words-count g v o l in
       by-cases (lt-or-le p (headerAt (t .slots) i .len))
       (λ lt.

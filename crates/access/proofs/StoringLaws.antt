@@ -19,6 +19,7 @@ use Rattle.model.specs.Replies.{no-memory, nothing}
 use Rattle.model.specs.Model.{Model, viewOf}
 use Rattle.model.specs.Refusals.{inside, target}
 use Rattle.model.specs.Terms.{terms, uncharged}
+use Rattle.heap.proofs.LocateLaws.{locates-so}
 use Rattle.heap.specs.Answers.{doneIs}
 use Rattle.heap.specs.Kinds.{contentOf, roomOf}
 use Rattle.heap.specs.State.{State, modelOf, moreOf, rawOf, withCells, withScalars, withSlots}
@@ -128,8 +129,8 @@ module _ {b : State} {w kind : ℕ} {is : Content → Bool} (g : Good b) (s : Sa
   unfolding doneIs
   stores-object {rest = rest} e d h x p =
       by-object (λ (y : Write). Performs k b (doneIs (y .done)) (put (y .words))) d
-      (λ q z l. rw e (object-refused l g k {rest = rest l} record { is = refl } z s (h l) (x l)))
-      (λ i z. p i (located-at g record { is = refl } z))
+      (λ q z l. rw e (object-refused l g k {rest = rest l} (locates-so refl) z s (h l) (x l)))
+      (λ i z. p i (located-at g (locates-so refl) z))
 
   -- a store that nothing but the object can refuse
   pub stores-free : {old new : List ℕ} {f : ℕ → List ℕ} {r : Done} (p : Content → Content) → put old ≡ b → OnObject (b .slots) (b .heap .fresh) w kind (λ q. write (Do.Refused q) old) (λ i. write Do.Accepted (f i)) (write r new) →

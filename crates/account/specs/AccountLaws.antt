@@ -1,10 +1,12 @@
 -- Laws of the account that promises and callers cite. Assumes nothing.
-use mathlib.Core.Path.{_≡_, refl}
+use mathlib.Core.Path.{_≡_, refl, sym, _∙_, ap}
 use mathlib.Core.Bool.{Bool, true, false, cond}
 use Prim.Native.Nat.{ℕ, _≤_}
 use native.Mathlib.Nat.{min-eq-left, min-eq-right}
-use Rattle.account.specs.Account.{saturated, fits, charged, chargeOf, chargeNumber, accountAfter}
+use native.Mathlib.Omega.{arith}
+use Rattle.account.specs.Account.{Charge, saturated, fits, charged, chargeIs, chargeOf}
 use Rattle.account.specs.declared.Account.{Account}
+use Rattle.account.specs.declared.Charged.{Charged}
 use Rattle.account.specs.declared.Charged.the-variants.{Next, Refused}
 
 pub saturated-below : (n : ℕ) → n ≤ 0xFFFFFFFFFFFFFFFF → saturated n ≡ n
@@ -15,19 +17,20 @@ pub saturated-above : (n : ℕ) → 0xFFFFFFFFFFFFFFFF ≤ n → saturated n ≡
 unfolding saturated
 saturated-above n h = min-eq-right h
 
--- a charge's number and the account after it, as document 01 gives them
-pub charge-number : (a : Account) (n : ℕ) → chargeNumber (chargeOf a n) ≡ cond (fits a n) 0 5
-unfolding chargeOf
-charge-number a n = go (fits a n)
-  where
-    go : (t : Bool) → chargeNumber (cond t (Next (charged a n)) Refused) ≡ cond t 0 5
-    go true = refl
-    go false = refl
+-- what a charge's answer says: the charge fits and the next account is the charged one, or it does not fit
+module _ (a : Account) (n : ℕ) {r : Charged} (d : chargeIs a r ≡ chargeOf a n) where
+  pub charge-next : {b : Account} → r ≡ Next b → (fits a n ≡ true) × (b ≡ charged a n)
+  unfolding chargeOf
+  charge-next {b} e = go (fits a n) refl (sym (ap (chargeIs a) e) ∙ d)
+    where
+      go : (t : Bool) → fits a n ≡ t → _≡_ {A = Charge} (chargeIs a (Next b)) record { refusal = cond t 0 5; next = cond t (charged a n) a } → (fits a n ≡ true) × (b ≡ charged a n)
+      go true p q = (p, ap (λ c. c .next) q)
+      go false p q = let z : _≡_ {A = ℕ} 0 5 = ap (λ c. c .refusal) q in absurd (omega arith)
 
-pub charge-account : (a : Account) (n : ℕ) → accountAfter a (chargeOf a n) ≡ cond (fits a n) (charged a n) a
-unfolding chargeOf
-charge-account a n = go (fits a n)
-  where
-    go : (t : Bool) → accountAfter a (cond t (Next (charged a n)) Refused) ≡ cond t (charged a n) a
-    go true = refl
-    go false = refl
+  pub charge-over : r ≡ Refused → fits a n ≡ false
+  unfolding chargeOf
+  charge-over e = go (fits a n) refl (sym (ap (chargeIs a) e) ∙ d)
+    where
+      go : (t : Bool) → fits a n ≡ t → _≡_ {A = Charge} (chargeIs a Refused) record { refusal = cond t 0 5; next = cond t (charged a n) a } → fits a n ≡ false
+      go true p q = let z : _≡_ {A = ℕ} 5 0 = ap (λ c. c .refusal) q in absurd (omega arith)
+      go false p q = p

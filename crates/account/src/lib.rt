@@ -1,7 +1,7 @@
 // The account (document 01, "Account"): a small record handed in and handed back.
 ghost use mathlib.Core.Path.{_≡_};
 ghost use Prim.Native.Nat.{_+_, _*_};
-ghost use Rattle.account.specs.Account.{saturated, newAccount, fits, fitsOf, chargeOf, wantsCollection, afterSweep};
+ghost use Rattle.account.specs.Account.{saturated, newAccount, fits, fitsOf, chargeIs, chargeOf, wantsCollection, afterSweep};
 
 pub struct Account {
     pub used: u64,
@@ -69,7 +69,7 @@ impl Account {
     }
 
     pub fn charge(self, bytes: u64) -> Charged
-        ensures { λ r. ⌜ r ≡ chargeOf self bytes ⌝ }
+        ensures { λ r. ⌜ chargeIs self r ≡ chargeOf self bytes ⌝ }
     {
         let used = saturating_add(self.used, bytes);
         if used <= self.limit {

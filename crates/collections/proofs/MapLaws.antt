@@ -19,7 +19,7 @@ use Rattle.layout.specs.Layout.{Layout, isTraced}
 use Rattle.map_store.specs.Store as Maps
 use Rattle.map_store.specs.Entries.{length-entries}
 use Rattle.map_store.specs.Map as Map
-use Rattle.map_store.specs.View.{cursorIs, entryIs, gotIs, nextIs, notedOf, position, stepIs, storeOf}
+use Rattle.map_store.specs.View.{EntryAnswer, cursorIs, entryAnswer, entryIs, gotIs, nextIs, notedOf, position, stepIs, storeOf}
 use Rattle.map_store.specs.View as View
 use Rattle.map_store.specs.declared.Found.{Found}
 use Rattle.map_store.specs.declared.Found.the-variants as F
@@ -116,20 +116,19 @@ module _ {t : State} {w : ℕ} (g : Good t) where
 
 -- ---- an entry read
 
-pub entry-inside : (pos : ℕ) (s : Maps.Store) {e : Maps.Entry} → some e ≡ Maps.entryRead pos s → (pos < Maps.places s) × (Maps.entryOf s pos ≡ e)
+pub entry-inside : (pos : ℕ) (s : Maps.Store) {r : Got} {v : Stored} → gotIs r ≡ entryAnswer pos s → r ≡ G.Place v → (pos < Maps.places s) × (Maps.entryOf s pos ≡ entryIs v)
 unfolding Maps.entryRead
-entry-inside pos s {e} h = go (ltb pos (Maps.places s)) refl h
+entry-inside pos s {v = v} d e = go (ltb pos (Maps.places s)) refl (ap (λ (a : EntryAnswer). a .entry) (sym (ap gotIs e) ∙ d))
   where
-    go : (b : Bool) → ltb pos (Maps.places s) ≡ b → some e ≡ cond b (some (Maps.entryOf s pos)) none → (pos < Maps.places s) × (Maps.entryOf s pos ≡ e)
+    go : (b : Bool) → ltb pos (Maps.places s) ≡ b → some (entryIs v) ≡ cond b (some (Maps.entryOf s pos)) none → (pos < Maps.places s) × (Maps.entryOf s pos ≡ entryIs v)
     go true z h = (ltb-true pos (Maps.places s) z, (cc))
     go false z h = absurd (let y : _≡_ {A = ℕ} 0 1 = cc in omega arith)
 
-pub entry-beyond : (pos : ℕ) (s : Maps.Store) → none ≡ Maps.entryRead pos s → Maps.places s ≤ pos
-unfolding Maps.entryRead
-entry-beyond pos s h = go (ltb pos (Maps.places s)) refl h
+pub entry-beyond : (pos : ℕ) (s : Maps.Store) {r : Got} → gotIs r ≡ entryAnswer pos s → r ≡ G.Outside → Maps.places s ≤ pos
+entry-beyond pos s d e = go (ltb pos (Maps.places s)) refl (ap (λ (a : EntryAnswer). a .refusal) (sym (ap gotIs e) ∙ d))
   where
-    go : (b : Bool) → ltb pos (Maps.places s) ≡ b → none ≡ cond b (some (Maps.entryOf s pos)) none → Maps.places s ≤ pos
-    go true z h = absurd (let y : _≡_ {A = ℕ} 0 1 = cc in omega arith)
+    go : (b : Bool) → ltb pos (Maps.places s) ≡ b → _≡_ {A = ℕ} 3 (cond b 0 3) → Maps.places s ≤ pos
+    go true z h = absurd (omega arith)
     go false z h = ltb-false pos (Maps.places s) z
 
 -- ---- the noted key
@@ -250,16 +249,16 @@ module _ {t : State} {w i : ℕ} {h : Header} {x : Scalars} {s : MapStore} {c : 
       (λ l. ap next-integer (rw (here-store l) (sym f ∙ ap nextIs e)))
 
   -- an entry inside, or 3
-  pub entry-at : {n : Got} {e : Stored} {pos : ℕ} → gotIs n ≡ Maps.entryRead pos (storeOf s c) → n ≡ G.Place e → Reads (Calls.read-entry w pos) t (answered (entry-is (entryIs e)))
+  pub entry-at : {n : Got} {e : Stored} {pos : ℕ} → gotIs n ≡ entryAnswer pos (storeOf s c) → n ≡ G.Place e → Reads (Calls.read-entry w pos) t (answered (entry-is (entryIs e)))
   unfolding terms effect uncharged
   entry-at {pos = pos} f e l =
-      let z = entry-inside pos (storeOf s c) (sym (ap gotIs e) ∙ f) in
+      let z = entry-inside pos (storeOf s c) f e in
       object-inside l (m .good) (Calls.read-entry w pos) (m .target) says-map {p = pos} {n = Maps.places (mapStore (modelOf l t) w)} refl (rw (here-store l) (z .0)) refl refl refl (ap entry-is (rw (here-store l) (z .1)))
 
-  pub entry-outside : {n : Got} {pos : ℕ} → gotIs n ≡ Maps.entryRead pos (storeOf s c) → n ≡ G.Outside → Reads (Calls.read-entry w pos) t (refused No.Outside)
+  pub entry-outside : {n : Got} {pos : ℕ} → gotIs n ≡ entryAnswer pos (storeOf s c) → n ≡ G.Outside → Reads (Calls.read-entry w pos) t (refused No.Outside)
   unfolding terms effect uncharged
   entry-outside {pos = pos} f e l =
-      object-outside l (m .good) (Calls.read-entry w pos) (m .target) says-map {p = pos} {n = Maps.places (mapStore (modelOf l t) w)} refl (rw (here-store l) (entry-beyond pos (storeOf s c) (sym (ap gotIs e) ∙ f))) refl
+      object-outside l (m .good) (Calls.read-entry w pos) (m .target) says-map {p = pos} {n = Maps.places (mapStore (modelOf l t) w)} refl (rw (here-store l) (entry-beyond pos (storeOf s c) f e)) refl
 
   pub step-read : {z : Maps.Cursor} (n : Stepped) → stepIs n ≡ Maps.nextOf (storeOf s c) z → Reads (Calls.next w z) t record { refusal = 0; answer = reply (perhaps (position (n .found))); lent = cursor-at (cursorIs (n .cursor)) }
   unfolding terms effect

@@ -9,6 +9,7 @@ use lib.Dec.{eqb}
 use lib.ListN.{getD, length}
 use Rattle.slots.specs.Header.{headerAt}
 use Rattle.slots.specs.Lookup.{Finds, hitFirst}
+use Rattle.slots.proofs.LookupLaws.{finds-so}
 use Rattle.slots.specs.declared.Found.{Found}
 use Rattle.slots.specs.declared.Found.the-variants as F
 use Rattle.layout.specs.Layout.{Layout}
@@ -31,7 +32,7 @@ use Rattle.heap.specs.State.{State, modelOf}
 use Rattle.heap.specs.Good.{Good}
 use Rattle.heap.specs.Promise.{Reads}
 use Rattle.heap.proofs.KindLaws.{Says}
-use Rattle.heap.proofs.LocateLaws.{found-within}
+use Rattle.heap.proofs.LocateLaws.{found-within, locates-so}
 use Rattle.heap.proofs.ReachLaws.{Target, located-at}
 use Rattle.heap.proofs.ReadLaws.{object-answered, object-refused}
 use Rattle.collections.specs.Words.{WordOf, readBy}
@@ -53,7 +54,7 @@ within-by kind F.Wrong d e = absurd (refused-at e)
 
 pub located-within : {s : List ℕ} {n w kind i : ℕ} {r : Located} → Locates s n w kind r → r ≡ L.At i → i < n
 unfolding locatedIn
-located-within {s} {n} {w} {kind} d e = within-by kind (hitFirst s n w) record { is = refl } (sym (d .is) ∙ e)
+located-within {s} {n} {w} {kind} d e = within-by kind (hitFirst s n w) (finds-so refl) (sym (d .is) ∙ e)
 
 -- ---- one word of the slot
 
@@ -96,7 +97,7 @@ module _ {t : State} {k : Call} {is : Content → Bool} {w kind : ℕ} (g : Good
   pub row-by : {words : List ℕ} {p : ℕ} {r : Reading} (P : Reading → Type 0) → WordOf (t .slots) words (t .heap .fresh) w kind p r → ((i : ℕ) → Target t w i kind → P (Read.Is (getD words (i * 8 + p) 0))) →
       ((q : Refusal) → Reads k t (refused q) → P (Read.Refused q)) → P r
   unfolding readBy
-  row-by {words} {p} P d there else = rw (d .is) (go (locatedIn (t .slots) (t .heap .fresh) w kind) record { is = refl })
+  row-by {words} {p} P d there else = rw (d .is) (go (locatedIn (t .slots) (t .heap .fresh) w kind) (locates-so refl))
     where
       go : (r : Located) → Locates (t .slots) (t .heap .fresh) w kind r → P (readBy (λ i. getD words (i * 8 + p) 0) r)
       go (L.At i) d = unfold readBy in there i (located-at g d refl)

@@ -20,7 +20,7 @@ use Rattle.cells.proofs.RawLaws.{region-get, region-length}
 use Rattle.history.proofs.Facts.{eqb-no, eqb-yes, ltb-no, ltb-yes}
 use Rattle.layout.specs.Layout.{Layout}
 use Rattle.map_store.specs.Store as Maps
-use Rattle.map_store.specs.View.{cursorIs, entryIs, gotIs, position, stepIs, storeOf}
+use Rattle.map_store.specs.View.{cursorIs, entryAnswer, entryIs, gotIs, position, stepIs, storeOf}
 use Rattle.map_store.specs.declared.Got.{Got}
 use Rattle.map_store.specs.declared.Got.the-variants as G
 use Rattle.map_store.specs.declared.MapStore.{MapStore}
@@ -131,12 +131,12 @@ module _ (t : State) (h : Header) (y x : Scalars) {m : MapStore} {c : List ℕ} 
   unfolding visitMap visitEntry
   map-ends e g z = record { is = λ l source keys. rw (next-is, e) (z .is source keys); epoch = omega (arith, z .epoch) }
 
-  module _ {p : ℕ} (e : n .found ≡ At.At p) {c′ : List ℕ} {r : Got} (ec′ : c′ ≡ regionOf h (t .cells)) (er : gotIs r ≡ Maps.entryRead p (storeOf m c′)) where
+  module _ {p : ℕ} (e : n .found ≡ At.At p) {c′ : List ℕ} {r : Got} (ec′ : c′ ≡ regionOf h (t .cells)) (er : gotIs r ≡ entryAnswer p (storeOf m c′)) where
     pub map-visits : {w : ℕ} {v : Stored} {z : Scalars} → r ≡ G.Place v → ItemIs t (y .b) (v .value) w → Moves (cursorIs (n .cursor)) (v .key) z → VisitsMap t h y x record { next = z; item = Item w }
     unfolding visitMap visitEntry
     map-visits {w} {v} q i z = record {
       is = λ l source keys.
-          let a = entry-inside p (storeOf m c′) (sym (ap gotIs q) ∙ er) .1 in
+          let a = entry-inside p (storeOf m c′) er q .1 in
           let b : Maps.entryOf (storeOf (mapFrom h y) (regionOf h (t .cells))) p ≡ entryIs v = rw (em, ec′) at a in
           rw (next-is, e, b, i .is l) (z .is source keys w (iteratorOf source keys x) refl refl);
       epoch = z .epoch;
@@ -146,7 +146,7 @@ module _ (t : State) (h : Header) (y x : Scalars) {m : MapStore} {c : List ℕ} 
     pub map-inside : r ≡ G.Outside → ⊥
     map-inside q =
         let a = next-inside (storeOf m c) u (ap (λ (s : Maps.Step). s .answer) (sym st) ∙ ap position e) in
-        let b = entry-beyond p (storeOf m c′) (sym (ap gotIs q) ∙ er) in
+        let b = entry-beyond p (storeOf m c′) er q in
         let d : c ≡ c′ = ec ∙ sym ec′ in
         let f = rw d at a in
         omega arith

@@ -4,6 +4,7 @@ use mathlib.Core.Path.{_≡_, sym, ap, _∙_}
 use mathlib.Core.Logic.{_≢_}
 use mathlib.Core.List.{List}
 use native.Mathlib.Omega.{arith}
+use borrow.Author.Tests.{lt-ltb, le-ltb}
 use lib.ListN.{length, getD, take}
 use lib.Seq.{length-take-le}
 use Rattle.slots.specs.Header.{scalarsAt}
@@ -21,16 +22,17 @@ use Rattle.finalizing.proofs.Keeping.{at-rest}
 use Rattle.finalizing.proofs.Finalized.{finalized-at, finalized-length, names, dropped-member}
 use Rattle.collector.specs.declared.Tally.{Tally}
 use Rattle.collector.specs.Sweep.{Sweepable, Swept}
-use Rattle.collector.specs.Ending.{buffers, Refuses, Collects}
+use Rattle.collector.specs.Ending.{Buffers, buffers, Collects, Ends, Refuses}
+use Rattle.collector.specs.declared.Ending.the-variants as E
 use Rattle.collector.proofs.Contents.{flag-frames}
 
 module _ (s : List ℕ) (n : ℕ) (f kept m o p m′ o′ p′ : List ℕ) {r : Kept} (k : Keeps r s n f kept m o p m′ o′ p′) where
   pub kept-done : {a b : ℕ} → r ≡ K.Done a b → AllKept s n f kept o p m′ o′ p′ a b
-  kept-done e = rw e at k
+  kept-done e = rw e at (k .leaves)
 
   pub kept-short : (x l : List ℕ) → r ≡ K.Short → Refuses f (buffers s x l m o p) (buffers s x l m′ o′ p′)
   kept-short x l e =
-      let q : TooFew f m o p m′ o′ p′ = rw e at k in
+      let q : TooFew f m o p m′ o′ p′ = rw e at (k .leaves) in
       record { short = q .short; same = λ j. buffers s x l (q .marks j) (q .order j) (q .places j) }
 
 module _ {s : List ℕ} {n : ℕ} {f kept o p m′ o′ p′ : List ℕ} {a b : ℕ} (q : AllKept s n f kept o p m′ o′ p′ a b) where
@@ -86,3 +88,12 @@ collects {x = x} {f = f} {m₁ = m₁} b q e sw u =
       marks = z .0;
       order = z .1;
     }
+
+-- ---- the two answers
+
+module _ {n : ℕ} {w : Weights} {free : ℕ} {f kept : List ℕ} {b a : Buffers} where
+  pub ends-short : Refuses f b a → Ends E.Short n w free f kept b a
+  ends-short q = record { answer = rw (lt-ltb (length (b .places)) (length f) (q .short)); leaves = q }
+
+  pub ends-swept : {t : Tally} {listed : ℕ} → Collects n w free f kept b a t listed → Ends (E.Swept t listed) n w free f kept b a
+  ends-swept q = record { answer = rw (le-ltb (length (b .places)) (length f) (q .fits), q .count); leaves = q }

@@ -155,10 +155,10 @@ heap-is h y p q r = λ j. record { account = p j; weights = h .weights; size = h
 
 module _ (n : ℕ) (w : Weights) (free : ℕ) (f kept : List ℕ) (b a : Buffers) {r : Ending} (k : Ends r n w free f kept b a) where
   pub ended-short : r ≡ E.Short → Refuses f b a
-  ended-short e = rw e at k
+  ended-short e = rw e at (k .leaves)
 
   pub ended-swept : {t : Tally} {j : ℕ} → r ≡ E.Swept t j → Collects n w free f kept b a t j
-  ended-swept e = rw e at k
+  ended-swept e = rw e at (k .leaves)
 
 module _ (l : Layout) (h : Heap) (s x li d c : List ℕ) (g : Good (state h s x li d c)) (roots p m o : List ℕ) {s′ x′ li′ m′ o′ p′ : List ℕ} where
   pub promise-short : Refuses (droppedWords l s x c (h .fresh) roots) (buffers s x li (take (h .fresh) m) o p) (buffers s′ x′ li′ m′ o′ p′) →

@@ -5,7 +5,7 @@ use mathlib.Core.List.{List}
 use lib.ListN.{length}
 use Rattle.model.specs.Replies.{written}
 use Rattle.model.specs.declared.Weights.{Weights}
-use Rattle.finalizing.specs.Dropped.{finalizedIn}
+use Rattle.finalizing.specs.Dropped.{ListAnswer, finalizedIn, listAnswer}
 use Rattle.collector.specs.declared.Tally.{Tally}
 use Rattle.collector.specs.declared.Ending.{Ending}
 use Rattle.collector.specs.declared.Ending.the-variants as E
@@ -38,6 +38,15 @@ pub record Collects (n : ℕ) (w : Weights) (free : ℕ) (f kept : List ℕ) (b 
   pub marks : a .marks ≡ b .marks
   pub order : a .order ≡ b .order
 
-abbrev pub Ends : Ending → ℕ → Weights → ℕ → List ℕ → List ℕ → Buffers → Buffers → Type 0
-Ends E.Short n w free f kept b a = Refuses f b a
-Ends (E.Swept t listed) n w free f kept b a = Collects n w free f kept b a t listed
+-- document 01's number, and how many coroutines are listed
+abbrev pub endingIs : Ending → ListAnswer
+endingIs E.Short = record { refusal = 8; listed = 0 }
+endingIs (E.Swept t listed) = record { refusal = 0; listed = listed }
+
+abbrev pub EndedBy : Ending → ℕ → Weights → ℕ → List ℕ → List ℕ → Buffers → Buffers → Type 0
+EndedBy E.Short n w free f kept b a = Refuses f b a
+EndedBy (E.Swept t listed) n w free f kept b a = Collects n w free f kept b a t listed
+
+pub record Ends (r : Ending) (n : ℕ) (w : Weights) (free : ℕ) (f kept : List ℕ) (b a : Buffers) : Type 0 where
+  pub answer : endingIs r ≡ listAnswer f (b .places)
+  pub leaves : EndedBy r n w free f kept b a

@@ -3,6 +3,7 @@ use mathlib.Core.Path.{_≡_, refl, sym, ap, _∙_}
 use mathlib.Core.List.{List, _∷_, _++_, List·Memᴰ·not-nil}
 use Prim.Native.Nat.{ℕ, zero, suc, _+_, _-_, _*_, _≤_, _<_}
 use native.Mathlib.Omega.{arith}
+use borrow.Author.Tests.{lt-ltb, le-ltb}
 use lib.ListN.{length, getD, take, drop, replicate, length-replicate, getD-replicate, length-drop, take-append-drop}
 use lib.Seq.{ext-getD, getD-take, getD-drop, length-take-le}
 use Rattle.cells.specs.Regions.{rawAt}
@@ -13,7 +14,8 @@ use Rattle.marking.specs.Marks.{Ready, Listing, Sound, Scanned, Phased, Unmarke
 use Rattle.marking.proofs.ReachLaws.{ones-le}
 use Rattle.marking.proofs.Doing.{drop-onward}
 use Rattle.finalizing.specs.Order.{seqOf, sortWords}
-use Rattle.finalizing.specs.Dropped.{isDropped, droppedSlots, marksReached, droppedWords, marksKept, Listable, Fills, Blank, Blanks, TooFew, AllKept}
+use Rattle.finalizing.specs.Dropped.{isDropped, droppedSlots, marksReached, droppedWords, marksKept, Listable, Fills, Blank, Blanks, TooFew, AllKept, Keeps}
+use Rattle.finalizing.specs.declared.Kept.the-variants as K
 use Rattle.finalizing.proofs.OrderLaws.{sort-length}
 use Rattle.finalizing.proofs.Filling.{sieve-length}
 use Rattle.finalizing.proofs.Listing.{filled-part}
@@ -114,3 +116,12 @@ module _ (l : Layout) (s x c : List ℕ) {n : ℕ} {roots m o m₁ o₁ : List �
           listing = q .scanned .listing;
         };
       }
+
+-- ---- the two answers
+
+module _ {s : List ℕ} {n : ℕ} {f kept m o p m′ o′ p′ : List ℕ} where
+  pub keeps-short : TooFew f m o p m′ o′ p′ → Keeps K.Short s n f kept m o p m′ o′ p′
+  keeps-short q = record { answer = rw (lt-ltb (length p) (length f) (q .short)); leaves = q }
+
+  pub keeps-done : {listed marked : ℕ} → AllKept s n f kept o p m′ o′ p′ listed marked → Keeps (K.Done listed marked) s n f kept m o p m′ o′ p′
+  keeps-done q = record { answer = rw (le-ltb (length p) (length f) (q .fits), q .count); leaves = q }

@@ -3,7 +3,7 @@ use mathlib.Core.Path.{_≡_}
 use mathlib.Core.Bool.{Bool, cond, _&&_, _||_}
 use mathlib.Core.List.{List, [], _∷_}
 use Prim.Native.Nat.{ℕ, zero, suc, _+_, _*_, _%_, _≤_, _<_}
-use lib.Dec.{eqb}
+use lib.Dec.{eqb, ltb}
 use lib.ListN.{length, getD, set, take, drop, replicate}
 use Rattle.slots.specs.Header.{headerAt, scalarsAt}
 use Rattle.layout.specs.Layout.{Layout}
@@ -87,6 +87,23 @@ pub record AllKept (s : List ℕ) (n : ℕ) (f kept o p m′ o′ p′ : List �
   pub places : p′ ≡ written f p
   pub scanned : Scanned s n o 0 m′ o′ marked
 
-abbrev pub Keeps : Kept → List ℕ → ℕ → List ℕ → List ℕ → List ℕ → List ℕ → List ℕ → List ℕ → List ℕ → List ℕ → Type 0
-Keeps K.Short s n f kept m o p m′ o′ p′ = TooFew f m o p m′ o′ p′
-Keeps (K.Done listed marked) s n f kept m o p m′ o′ p′ = AllKept s n f kept o p m′ o′ p′ listed marked
+-- document 01's number, and how many coroutines are listed
+pub record ListAnswer : Type 0 where
+  pub refusal : ℕ
+  pub listed : ℕ
+
+abbrev pub keptIs : Kept → ListAnswer
+keptIs K.Short = record { refusal = 8; listed = 0 }
+keptIs (K.Done listed marked) = record { refusal = 0; listed = listed }
+
+-- "8 lent list shorter than F": f is F, p the lent list
+abbrev pub listAnswer : List ℕ → List ℕ → ListAnswer
+listAnswer f p = record { refusal = cond (ltb (length p) (length f)) 8 0; listed = cond (ltb (length p) (length f)) 0 (length f) }
+
+abbrev pub KeptBy : Kept → List ℕ → ℕ → List ℕ → List ℕ → List ℕ → List ℕ → List ℕ → List ℕ → List ℕ → List ℕ → Type 0
+KeptBy K.Short s n f kept m o p m′ o′ p′ = TooFew f m o p m′ o′ p′
+KeptBy (K.Done listed marked) s n f kept m o p m′ o′ p′ = AllKept s n f kept o p m′ o′ p′ listed marked
+
+pub record Keeps (r : Kept) (s : List ℕ) (n : ℕ) (f kept m o p m′ o′ p′ : List ℕ) : Type 0 where
+  pub answer : keptIs r ≡ listAnswer f p
+  pub leaves : KeptBy r s n f kept m o p m′ o′ p′

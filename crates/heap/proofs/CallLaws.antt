@@ -16,9 +16,11 @@ use Rattle.words.specs.declared.Raw.the-variants as R
 use Rattle.account.specs.declared.Account.{Account}
 use Rattle.account.specs.declared.Charged.{Charged}
 use Rattle.account.specs.declared.Charged.the-variants as C
-use Rattle.account.specs.Account.{chargeOf, charged, fits, wantsCollection}
+use Rattle.account.specs.Account.{chargeIs, chargeOf, charged, fits, wantsCollection}
+use Rattle.account.specs.AccountLaws.{charge-next, charge-over}
 use Rattle.slots.specs.Header.{headerAt}
 use Rattle.slots.specs.Lookup.{Finds, hitFirst}
+use Rattle.slots.proofs.LookupLaws.{finds-so}
 use Rattle.slots.specs.declared.Found.{Found}
 use Rattle.slots.specs.declared.Found.the-variants as F
 use Rattle.slots.specs.declared.Header.{Header}
@@ -102,7 +104,7 @@ row-by l F.Nothing g d = rw (nothing-look l g d refl)
 row-by l F.Wrong g d = rw (wrong-look l g d refl)
 
 pub row-read : (l : Layout) {t : State} {w r : ℕ} → Good t → Ranks (t .slots) (t .heap .fresh) w r → readOr 0 row (look (viewOf (modelOf l t)) w) ≡ r
-row-read l {t} {w} g d = row-by l (hitFirst (t .slots) (t .heap .fresh) w) g record { is = refl } ∙ sym (d .is)
+row-read l {t} {w} g d = row-by l (hitFirst (t .slots) (t .heap .fresh) w) g (finds-so refl) ∙ sym (d .is)
 
 pub get-read : {t : State} {w r : ℕ} → Good t → Ranks (t .slots) (t .heap .fresh) w r → Reads (Calls.get w) t (answered (number r))
 unfolding terms effect
@@ -115,7 +117,7 @@ row-max-by F.Nothing g d = omega arith
 row-max-by F.Wrong g d = omega arith
 
 pub row-max : {t : State} {w r : ℕ} → Good t → Ranks (t .slots) (t .heap .fresh) w r → r ≤ 11
-row-max {t} {w} g d = rw (d .is) (row-max-by (hitFirst (t .slots) (t .heap .fresh) w) g record { is = refl })
+row-max {t} {w} g d = rw (d .is) (row-max-by (hitFirst (t .slots) (t .heap .fresh) w) g (finds-so refl))
 
 -- ---- `kind` of heap.rs
 
@@ -252,35 +254,16 @@ good-account g a = record {
   room = g .room;
 }
 
-charged-refused : {a : Account} → C.Next a ≡ C.Refused → ⊥
-charged-refused e = let z : _≡_ {A = ℕ} 0 1 = cc in absurd (omega arith)
-
-pub charge-so : (a : Account) (n : ℕ) {x : Account} → chargeOf a n ≡ C.Next x → (fits a n ≡ true) × (x ≡ charged a n)
-unfolding chargeOf
-charge-so a n {x} e = go (fits a n) refl e
-  where
-    go : (b : Bool) → fits a n ≡ b → cond b (C.Next (charged a n)) C.Refused ≡ C.Next x → (fits a n ≡ true) × (x ≡ charged a n)
-    go true f y = (f, (cc))
-    go false f y = absurd (charged-refused (sym y))
-
-pub charge-not : (a : Account) (n : ℕ) → chargeOf a n ≡ C.Refused → fits a n ≡ false
-unfolding chargeOf
-charge-not a n e = go (fits a n) refl e
-  where
-    go : (b : Bool) → fits a n ≡ b → cond b (C.Next (charged a n)) C.Refused ≡ C.Refused → fits a n ≡ false
-    go true f y = absurd (charged-refused y)
-    go false f y = f
-
-module _ {t : State} {bytes : ℕ} {r : Charged} (g : Good t) (d : r ≡ chargeOf (t .heap .account) bytes) where
+module _ {t : State} {bytes : ℕ} {r : Charged} (g : Good t) (d : chargeIs (t .heap .account) r ≡ chargeOf (t .heap .account) bytes) where
   pub charge-refused : r ≡ C.Refused → Performs (Calls.charge bytes) t (refused No.OverBudget) t
   unfolding terms charging effect
-  charge-refused e l = does-5 l g (Calls.charge bytes) first-none refl (charge-not (t .heap .account) bytes (sym d ∙ e)) refl
+  charge-refused e l = does-5 l g (Calls.charge bytes) first-none refl (charge-over (t .heap .account) bytes d e) refl
 
   pub charge-accepted : {a : Account} → r ≡ C.Next a → Performs (Calls.charge bytes) t (answered nothing) (withHeap t (withAccount (t .heap) a))
   unfolding terms charging effect seen step judged finish accept apply answerOf accountAfter paid collectionsAfter slotless added modelOf
   charge-accepted {a} e l =
       let m = modelOf l t in
       let k = Calls.charge bytes in
-      let c = charge-so (t .heap .account) bytes (sym d ∙ e) in
+      let c = charge-next (t .heap .account) bytes d e in
       let s = says-none m (terms m k) (effect (viewOf m) k) first-none (fits-so (t .heap .account) bytes (c .0)) refl (no-cells-added m 0 refl) in
       record { shows = rw s; next = rw (s, c .1, fun-ext (slot-account t (charged (t .heap .account) bytes))); good = good-account g a; kept = λ z. absurd (z refl) }

@@ -1,7 +1,7 @@
 -- The answers of locate and row_at. Assumes nothing.
 use Prim.Native.Nat.{ℕ, _+_, _*_, _/_, _%_, _≤_, _<_}
 use mathlib.Core.Path.{_≡_, refl, ap, sym, _∙_}
-use mathlib.Core.Bool.{Bool, true, false}
+use mathlib.Core.Bool.{Bool, true, false, cond}
 use mathlib.Core.List.{List}
 use native.Mathlib.Omega.{arith}
 use borrow.Author.Tests.{ltb-true}
@@ -13,9 +13,12 @@ use Rattle.slots.specs.declared.Found.{Found}
 use Rattle.slots.specs.declared.Found.the-variants as F
 use Rattle.slots.specs.declared.Header.{Header}
 use Rattle.history.proofs.Facts.{eqb-no, eqb-yes}
+use Rattle.heap.specs.declared.Located.{Located}
 use Rattle.heap.specs.declared.Located.the-variants.{At, Refused}
 use Rattle.heap.specs.declared.Refusal.the-variants.{OtherKind, ReachesNothing}
-use Rattle.heap.specs.Locating.{Locates, Ranks, locatedBy, locatedIn, rowBy}
+use Rattle.heap.specs.Answers.{numberOf}
+use Rattle.heap.specs.Locating as L
+use Rattle.heap.specs.Locating.{Locates, Ranks, locatedBy, locatedIn, locatedNumber, rowBy, targetNumber}
 
 -- ---- an object that is found lies within the slots
 
@@ -49,22 +52,36 @@ found-fits d e a b = let l = found-within d e in (omega arith, omega arith)
 
 -- ---- the answers
 
+number-by : (s : List ℕ) (kind : ℕ) (f : Found) → locatedNumber (locatedBy s kind f) ≡ targetNumber s kind f
+unfolding locatedNumber locatedBy targetNumber numberOf
+number-by s kind (F.At i) = go (eqb (headerAt s i .kind) kind)
+  where
+    go : (b : Bool) → locatedNumber (L.pick b (At i) (Refused OtherKind)) ≡ cond b 0 2
+    go true = refl
+    go false = refl
+number-by s kind F.Nothing = refl
+number-by s kind F.Wrong = refl
+
+pub locates-so : {s : List ℕ} {n w kind : ℕ} {r : Located} → r ≡ locatedIn s n w kind → Locates s n w kind r
+unfolding locatedIn
+locates-so {s} {n} {w} {kind} e = record { is = e; number = ap locatedNumber e ∙ number-by s kind (hitFirst s n w) }
+
 module _ {s : List ℕ} {n w kind : ℕ} {f : Found} (d : Finds s n w f) where
   pub locates-nothing : f ≡ F.Nothing → Locates s n w kind (Refused ReachesNothing)
   unfolding locatedIn locatedBy
-  locates-nothing e = record { is = rw (sym (d .is) ∙ e) }
+  locates-nothing e = locates-so (rw (sym (d .is) ∙ e))
 
   pub locates-wrong : f ≡ F.Wrong → Locates s n w kind (Refused OtherKind)
   unfolding locatedIn locatedBy
-  locates-wrong e = record { is = rw (sym (d .is) ∙ e) }
+  locates-wrong e = locates-so (rw (sym (d .is) ∙ e))
 
   pub locates-at : {i : ℕ} {h : Header} → f ≡ F.At i → h ≡ headerAt s i → h .kind ≡ kind → Locates s n w kind (At i)
   unfolding locatedIn locatedBy
-  locates-at {i} {h} e r k = record { is = rw (sym (d .is) ∙ e, eqb-yes (headerAt s i .kind) kind (ap (λ (x : Header). x .kind) (sym r) ∙ k)) }
+  locates-at {i} {h} e r k = locates-so (rw (sym (d .is) ∙ e, eqb-yes (headerAt s i .kind) kind (ap (λ (x : Header). x .kind) (sym r) ∙ k)))
 
   pub locates-other : {i : ℕ} {h : Header} → f ≡ F.At i → h ≡ headerAt s i → (h .kind ≡ kind → ⊥) → Locates s n w kind (Refused OtherKind)
   unfolding locatedIn locatedBy
-  locates-other {i} {h} e r k = record { is = rw (sym (d .is) ∙ e, eqb-no (headerAt s i .kind) kind (λ z. k (ap (λ (x : Header). x .kind) r ∙ z))) }
+  locates-other {i} {h} e r k = locates-so (rw (sym (d .is) ∙ e, eqb-no (headerAt s i .kind) kind (λ z. k (ap (λ (x : Header). x .kind) r ∙ z))))
 
 module _ {s : List ℕ} {n w : ℕ} {f : Found} (d : Finds s n w f) where
   pub ranks-nothing : f ≡ F.Nothing → Ranks s n w 0

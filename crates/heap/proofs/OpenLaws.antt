@@ -15,7 +15,7 @@ use Rattle.cells.specs.Regions.{sumTo}
 use Rattle.cells.proofs.LaidLaws.{laid-empty}
 use Rattle.slots.specs.FreeList.{freeList}
 use Rattle.layout.specs.Layout.{Layout, parse}
-use Rattle.layout.specs.Sections.{LayoutRead, checkedBy, isLayout, layoutOf, readable, tableAfter}
+use Rattle.layout.specs.Sections.{LayoutRead, isLayout, openingNumber, layoutOf, readable, tableAfter}
 use Rattle.layout.specs.declared.Checked.{Checked}
 use Rattle.layout.specs.declared.Checked.the-variants as Check
 use Rattle.layout.proofs.Lookup.{none-parsed, tabled-layout}
@@ -27,7 +27,8 @@ use Rattle.heap.specs.declared.Opened.the-variants.{Ready, Refused}
 use Rattle.heap.specs.declared.Refusal.the-variants.{BadOpening}
 use Rattle.heap.specs.State.{State, modelOf, state}
 use Rattle.heap.specs.Good.{Good, WeightsGood}
-use Rattle.heap.specs.Opens.{Beside, Opens, accepts, beside, cleared, newHeap, openedBy, roomFor, weightsFit}
+use Rattle.heap.specs.Opens.{Beside, Opens, accepts, beside, cleared, newHeap, openedBy, openedNumber, roomFor, weightsFit}
+use Rattle.heap.specs.Answers.{numberOf}
 use Rattle.heap.proofs.SlotLaws.{slot-unused}
 
 -- ---- places cleared one after another
@@ -120,13 +121,9 @@ pub room-short : (o : Opening) (t : State) (x : Beside) → roomFor (o .slots) (
 unfolding accepts
 room-short o t x h = rw (h, and-no (leb 514 (length (x .table))), and-no (is-some (open-heap o)))
 
-layout-so : (bs t : List ℕ) → Check.Refused ≡ checkedBy bs t → readable bs t ≡ false
-unfolding checkedBy
-layout-so bs t e = go (readable bs t) e
-  where
-    go : (b : Bool) → Check.Refused ≡ cond b Check.Accepted Check.Refused → b ≡ false
-    go true e = let z : _≡_ {A = ℕ} 0 1 = cc in absurd (omega arith)
-    go false e = refl
+layout-so : (b : Bool) → openingNumber Check.Refused ≡ cond b 0 10 → b ≡ false
+layout-so true e = absurd (omega arith)
+layout-so false e = refl
 
 -- no layout, or no room for its table
 layout-no : (o : Opening) (t : State) (x : Beside) (b : Bool) → isLayout (o .layout) ≡ b → (b && leb 514 (length (x .table))) ≡ false → accepts o t x ≡ false
@@ -137,12 +134,12 @@ layout-no o t x false e h = rw (none-parsed (o .layout) e)
 pub layout-refused : (o : Opening) (t : State) (x : Beside) {table : List ℕ} {r : Checked} → LayoutRead (o .layout) (x .table) table r → r ≡ Check.Refused → (accepts o t x ≡ false) × (table ≡ x .table)
 unfolding tableAfter
 layout-refused o t x w e =
-    let f = layout-so (o .layout) (x .table) (sym e ∙ w .answer) in
+    let f = layout-so (readable (o .layout) (x .table)) (sym (ap openingNumber e) ∙ w .number) in
     (layout-no o t x (isLayout (o .layout)) refl f, w .table ∙ rw f)
 
 opens-no : {o : Opening} {t : State} {x y : Beside} → accepts o t x ≡ false → y ≡ x → Opens o t x (Refused BadOpening) y
-unfolding openedBy
-opens-no h e = record { answer = rw h; accepted = λ z. absurd (let y : true ≡ false = sym z ∙ h in let w : _≡_ {A = ℕ} 0 1 = cc in omega arith); refused = λ z. e }
+unfolding openedBy openedNumber numberOf
+opens-no h e = record { answer = rw h; number = rw h; accepted = λ z. absurd (let y : true ≡ false = sym z ∙ h in let w : _≡_ {A = ℕ} 0 1 = cc in omega arith); refused = λ z. e }
 
 pub opens-refused : {o : Opening} {t : State} {x : Beside} → accepts o t x ≡ false → Opens o t x (Refused BadOpening) x
 opens-refused h = opens-no h refl
@@ -208,7 +205,7 @@ module _ (o : Opening) (s x f d c : List ℕ) (b : Beside) where
 
   pub opens-accepted : {table marks order : List ℕ} {r : Checked} → sizesFit o ≡ true → o .cells ≡ length c → roomFor (o .slots) (length s) (length x) (length f) (length d) (length (b .marks)) (length (b .order)) ≡ true →
       LayoutRead (o .layout) (b .table) table r → r ≡ Check.Accepted → marks ≡ cleared (b .marks) (o .slots) → order ≡ cleared (b .order) (o .slots * 2) → Opens o heap-opened b (Ready (heap-opened .heap)) (beside table marks order)
-  unfolding accepts open-heap openWith is-some openedBy tableAfter
+  unfolding accepts open-heap openWith is-some openedBy openedNumber tableAfter
   opens-accepted {table} {marks} {order} sizes cells room w e em eo =
       let k = w .tabled e in
       let q = room-so (o .slots) (length s) (length x) (length f) (length d) (length (b .marks)) (length (b .order)) room in
@@ -217,6 +214,7 @@ module _ (o : Opening) (s x f d c : List ℕ) (b : Beside) where
       let layout : isLayout (o .layout) ≡ true = tabled-layout (o .layout) table k in
       record {
         answer = rw yes;
+        number = rw yes;
         accepted = λ z. record {
           model = rw (k .parsed, sizes) (ap some (new-model o (layoutOf (o .layout)) s x f d c cells));
           good = new-good o s x f d c cells (sizes-so o sizes) (q .slots-fit) (q .scalars-fit) (q .list-fit) (q .directory-fit);

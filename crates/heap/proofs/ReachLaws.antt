@@ -14,7 +14,7 @@ use Rattle.slots.specs.Lookup.{Finds, hitFirst}
 use Rattle.slots.specs.declared.Found.{Found}
 use Rattle.slots.specs.declared.Found.the-variants as F
 use Rattle.slots.proofs.Cases.{by-cases, lt-or-le, same-or-not}
-use Rattle.slots.proofs.LookupLaws.{FoundNone, found-at, found-nothing, found-wrong}
+use Rattle.slots.proofs.LookupLaws.{FoundNone, finds-so, found-at, found-nothing, found-wrong}
 use Rattle.cells.specs.Regions.{rawAt}
 use Rattle.history.proofs.Facts.{eqb-self, eqb-yes, leb-no, leb-yes}
 use Rattle.history.proofs.Judging.{look-no-slot, look-slot, target-missed, target-nil, target-reached}
@@ -207,12 +207,12 @@ refused-by l {is = is} {q = q} s F.Wrong g d x = let e : OtherKind ≡ q = (cc) 
 module _ {t : State} {w kind : ℕ} {r : Located} (g : Good t) (d : Locates (t .slots) (t .heap .fresh) w kind r) where
   pub located-at : {i : ℕ} → r ≡ At i → Target t w i kind
   unfolding locatedIn
-  located-at e = at-by (hitFirst (t .slots) (t .heap .fresh) w) g record { is = refl } (sym (d .is) ∙ e)
+  located-at e = at-by (hitFirst (t .slots) (t .heap .fresh) w) g (finds-so refl) (sym (d .is) ∙ e)
 
   -- the refusal, for every test that says the kind
   pub located-refused : {q : Refusal} → r ≡ Refused q → (l : Layout) {is : Content → Bool} → Says is kind → target (viewOf (modelOf l t)) is w ≡ numberOf q
   unfolding locatedIn
-  located-refused e l s = refused-by l s (hitFirst (t .slots) (t .heap .fresh) w) g record { is = refl } (sym (d .is) ∙ e)
+  located-refused e l s = refused-by l s (hitFirst (t .slots) (t .heap .fresh) w) g (finds-so refl) (sym (d .is) ∙ e)
 
 -- the object is of the kind that the test says
 pub target-met : (l : Layout) {t : State} {w i kind : ℕ} {is : Content → Bool} → Good t → Target t w i kind → Says is kind → target (viewOf (modelOf l t)) is w ≡ 0

@@ -9,7 +9,8 @@ use lib.ListN.{getD, length, set}
 use Rattle.account.specs.declared.Account.{Account}
 use Rattle.account.specs.declared.Charged.{Charged}
 use Rattle.account.specs.declared.Charged.the-variants as C
-use Rattle.account.specs.Account.{chargeOf, fits}
+use Rattle.account.specs.Account.{chargeIs, chargeOf, fits}
+use Rattle.account.specs.AccountLaws.{charge-next, charge-over}
 use Rattle.slots.specs.Header.{headerAt, setHeader, withHalf, withRegion}
 use Rattle.slots.specs.FreeList.{Takes, takenHalf, takenSlot}
 use Rattle.slots.specs.declared.Header.{Header}
@@ -26,7 +27,6 @@ use Rattle.heap.specs.declared.Refusal.the-variants as No
 use Rattle.heap.specs.State.{State, state, withRegions}
 use Rattle.heap.specs.Good.{Good, coroutineOf}
 use Rattle.heap.specs.Placing.{PlacesPlain, PlacesRegion, PlainObject, RegionObject, Seatable, Seats, flagOf, judgedNew, nextSlot, placedPlain, placedRegion}
-use Rattle.heap.proofs.CallLaws.{charge-not, charge-so}
 use Rattle.heap.proofs.PlaceLaws.{coroutine-max, judged-accepted, plain-good, region-good}
 
 -- ---- judge_new
@@ -84,8 +84,8 @@ seatable {t} {bytes} {size} g e =
     }
 
 module _ {h : Heap} {s list : List ℕ} {bytes size : ℕ} (g : Seatable h s list bytes size) where
-  pub seat-charged : {r : Charged} → r ≡ chargeOf (h .account) bytes → r ≡ C.Refused → ⊥
-  seat-charged e z = let y : true ≡ false = sym (g .in-budget) ∙ charge-not (h .account) bytes (sym e ∙ z) in let w : _≡_ {A = ℕ} 0 1 = cc in absurd (omega arith)
+  pub seat-charged : {r : Charged} → chargeIs (h .account) r ≡ chargeOf (h .account) bytes → r ≡ C.Refused → ⊥
+  seat-charged e z = let y : true ≡ false = sym (g .in-budget) ∙ charge-over (h .account) bytes e z in let w : _≡_ {A = ℕ} 0 1 = cc in absurd (omega arith)
 
   module _ {flag : ℕ} {t : Taken} (e : Takes s list (h .fresh) (h .free) flag t) where
     pub seat-slot : (t .slot < 65536) × (t .slot * 8 + 8 ≤ length s)
@@ -114,12 +114,12 @@ seatedHeap h a t size coroutine = record {
   freed = h .freed;
 }
 
-pub seats : (h : Heap) {s s′ list : List ℕ} (bytes : ℕ) (hd : Header) {flag coroutine : ℕ} {t : Taken} {c : Charged} {a : Account} → Takes s list (h .fresh) (h .free) flag t → flag ≡ flagOf (hd .kind) → coroutine ≡ coroutineOf (hd .kind) → c ≡ chargeOf (h .account) bytes → c ≡ C.Next a →
+pub seats : (h : Heap) {s s′ list : List ℕ} (bytes : ℕ) (hd : Header) {flag coroutine : ℕ} {t : Taken} {c : Charged} {a : Account} → Takes s list (h .fresh) (h .free) flag t → flag ≡ flagOf (hd .kind) → coroutine ≡ coroutineOf (hd .kind) → chargeIs (h .account) c ≡ chargeOf (h .account) bytes → c ≡ C.Next a →
     s′ ≡ setHeader s (t .slot) (withHalf hd (t .half)) → Seats h s list hd bytes record { heap = seatedHeap h a t (hd .size) coroutine; answer = Is (t .half * 4294967296 + t .slot) } s′
 seats h {s} {list = list} bytes hd {t = t} e f o p q w =
     let half : t .half ≡ takenHalf s list (h .free) + flagOf (hd .kind) = e .half ∙ ap (λ (n : ℕ). takenHalf s list (h .free) + n) f in
     record {
-      heap = rw (charge-so (h .account) bytes (sym p ∙ q) .1, e .fresh-is, e .free-is, o);
+      heap = rw (charge-next (h .account) bytes p q .1, e .fresh-is, e .free-is, o);
       slots = w ∙ rw (e .slot, half);
       answer = rw (e .slot, half);
     }

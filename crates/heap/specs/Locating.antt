@@ -1,7 +1,7 @@
 -- The object that a call is made on (document 01, refusals 1 and 2).
 use Prim.Native.Nat.{ℕ}
 use mathlib.Core.Path.{_≡_}
-use mathlib.Core.Bool.{Bool, true, false}
+use mathlib.Core.Bool.{Bool, true, false, cond}
 use mathlib.Core.List.{List}
 use lib.Dec.{eqb}
 use Rattle.slots.specs.Header.{headerAt}
@@ -11,6 +11,7 @@ use Rattle.slots.specs.declared.Found.the-variants as F
 use Rattle.heap.specs.declared.Located.{Located}
 use Rattle.heap.specs.declared.Located.the-variants.{At, Refused}
 use Rattle.heap.specs.declared.Refusal.the-variants.{ReachesNothing, OtherKind}
+use Rattle.heap.specs.Answers.{numberOf}
 
 abbrev pub pick : Bool → Located → Located → Located
 pick true a b = a
@@ -25,8 +26,20 @@ locatedBy s kind F.Wrong = Refused OtherKind
 unfoldable pub locatedIn : List ℕ → ℕ → ℕ → ℕ → Located
 locatedIn s n w kind = locatedBy s kind (hitFirst s n w)
 
+-- document 01's number of each case
+unfoldable pub locatedNumber : Located → ℕ
+locatedNumber (At i) = 0
+locatedNumber (Refused q) = numberOf q
+
+-- "1 reaches nothing", "2 another kind, or a word neither nil nor reference"
+unfoldable pub targetNumber : List ℕ → ℕ → Found → ℕ
+targetNumber s kind (F.At i) = cond (eqb (headerAt s i .kind) kind) 0 2
+targetNumber s kind F.Nothing = 1
+targetNumber s kind F.Wrong = 2
+
 pub record Locates (s : List ℕ) (n w kind : ℕ) (r : Located) : Type 0 where
   pub is : r ≡ locatedIn s n w kind
+  pub number : locatedNumber r ≡ targetNumber s kind (hitFirst s n w)
 
 -- the row of the object that a word reaches, 0 for none
 unfoldable pub rowBy : List ℕ → Found → ℕ

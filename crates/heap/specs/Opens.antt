@@ -2,7 +2,7 @@
 -- buffer too short for them is 10 too, and nothing is written then. Buffers may hold anything before.
 use Prim.Native.Nat.{ℕ, _*_}
 use mathlib.Core.Path.{_≡_}
-use mathlib.Core.Bool.{Bool, true, false, _&&_}
+use mathlib.Core.Bool.{Bool, true, false, cond, _&&_}
 use mathlib.Core.List.{List, _++_}
 use mathlib.Core.Option.{some}
 use lib.Dec.{leb}
@@ -20,7 +20,7 @@ use Rattle.heap.specs.Answers.{numberOf}
 use Rattle.heap.specs.State.{State, modelOf}
 use Rattle.heap.specs.Good.{Good, Rested}
 
--- document 01's number
+-- document 01's number of each case
 unfoldable pub openedNumber : Opened → ℕ
 openedNumber (Ready h) = 0
 openedNumber (Refused q) = numberOf q
@@ -85,6 +85,7 @@ pub record Accepts (o : Opening) (t : State) (x y : Beside) : Type 0 where
 -- t: the new record over the buffers
 pub record Opens (o : Opening) (t : State) (x : Beside) (r : Opened) (y : Beside) : Type 0 where
   pub answer : r ≡ openedBy (accepts o t x) (t .heap)
+  pub number : openedNumber r ≡ cond (accepts o t x) 0 10
   pub accepted : accepts o t x ≡ true → Accepts o t x y
   pub refused : accepts o t x ≡ false → y ≡ x
 

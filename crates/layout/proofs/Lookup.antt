@@ -11,7 +11,7 @@ use lib.ListN.{length, getD, set, length-set, length-map, List·getD-map, List·
 use lib.Seq.{drop-length, sets, length-sets, getD-set-same, getD-set-other}
 use borrow.Author.Tests.{le-leb}
 use Rattle.layout.specs.Layout.{Layout, Function, noFunction, atLast, parse, fieldsOf}
-use Rattle.layout.specs.Sections.{isGiven, orEmpty, isLayout, layoutOf, operandBytes, consIf, startsFrom, starts, sectionAt, listed, fieldsFrom, SectionStarts, Tabled, tableOf, readable, checkedBy, tableAfter, LayoutRead, StructSection, FunctionSection}
+use Rattle.layout.specs.Sections.{isGiven, orEmpty, isLayout, layoutOf, operandBytes, consIf, startsFrom, starts, sectionAt, listed, fieldsFrom, SectionStarts, Tabled, tableOf, readable, tableAfter, LayoutRead, StructSection, FunctionSection}
 use Rattle.layout.specs.declared.Checked.the-variants.{Accepted, Refused}
 use Rattle.layout.proofs.Accepting.{by-test}
 use Rattle.layout.proofs.Parsed.{Sections, parsed, addFields, addLists, functionAt}
@@ -188,11 +188,11 @@ unreadable bs t e room = by-test (isLayout bs) (λ h. let f : true ≡ false = r
 
 module _ (bs t : List ℕ) where
   pub read-accepted : isLayout bs ≡ true → 514 ≤ length t → LayoutRead bs t (tableOf bs t) Accepted
-  unfolding checkedBy tableAfter
+  unfolding tableAfter
   read-accepted h room =
       let r : leb 514 (length t) ≡ true = le-leb 514 (length t) room in
       record {
-        answer = rw (h, r);
+        number = rw (h, r);
         table = rw (h, r);
         tabled = λ e. table-tabled bs t h room;
         refused = λ f. let z : _≡_ {A = ℕ} 0 1 = cc in absurd (omega arith);
@@ -201,10 +201,10 @@ module _ (bs t : List ℕ) where
       }
 
   pub read-refused : readable bs t ≡ false → LayoutRead bs t t Refused
-  unfolding checkedBy tableAfter
+  unfolding tableAfter
   read-refused e =
       record {
-        answer = rw e;
+        number = rw e;
         table = rw e;
         tabled = λ f. let z : _≡_ {A = ℕ} 0 1 = cc in absurd (omega arith);
         refused = λ f room. none-parsed bs (unreadable bs t e room);

@@ -115,9 +115,6 @@ tableOf bs t = set (set (sets (sets t 0 (starts 1 bs)) 256 (starts 3 bs)) 512 (l
 abbrev pub readable : List ℕ → List ℕ → Bool
 readable bs t = isLayout bs && leb 514 (length t)
 
-unfoldable pub checkedBy : List ℕ → List ℕ → Checked
-checkedBy bs t = cond (readable bs t) Accepted Refused
-
 -- document 01's number of each case ("Who can be turned back")
 abbrev pub openingNumber : Checked → ℕ
 openingNumber Accepted = 0
@@ -127,7 +124,7 @@ unfoldable pub tableAfter : List ℕ → List ℕ → List ℕ
 tableAfter bs t = cond (readable bs t) (tableOf bs t) t
 
 pub record LayoutRead (bs t t′ : List ℕ) (r : Checked) : Type 0 where
-  pub answer : r ≡ checkedBy bs t
+  pub number : openingNumber r ≡ cond (readable bs t) 0 10
   pub table : t′ ≡ tableAfter bs t
   pub tabled : r ≡ Accepted → Tabled bs t′
   pub refused : r ≡ Refused → 514 ≤ length t → parse bs ≡ none

@@ -1,7 +1,7 @@
 -- The lookup with the hit first answers as document 01's order does, and what each answer tells of the word. Assumes nothing.
 use Prim.Native.Nat.{ℕ, _+_, _*_, _/_, _%_, _≤_, _<_}
 use mathlib.Core.Path.{_≡_, refl, ap, sym, _∙_}
-use mathlib.Core.Bool.{Bool, true, false, cond}
+use mathlib.Core.Bool.{Bool, true, false, cond, not, _&&_, _||_}
 use mathlib.Core.Logic.{_⊎_, inl, inr}
 use mathlib.Core.List.{List}
 use native.Mathlib.Omega.{arith}
@@ -16,9 +16,37 @@ use Rattle.slots.specs.declared.Found.{Found}
 use Rattle.slots.specs.declared.Found.the-variants.{At, Nothing, Wrong}
 use Rattle.slots.specs.Header.{headerAt, setHeader}
 use Rattle.slots.specs.declared.Header.{Header}
-use Rattle.slots.specs.Lookup.{pick, missed, hitFirst, reachedIn, foundBy, Finds, Halves}
+use Rattle.slots.specs.Lookup.{pick, missed, missNumber, foundNumber, hitFirst, hits, reachedIn, foundBy, Finds, Halves}
 use Rattle.slots.proofs.Cases.{by-cases, lt-or-le, same-or-not}
 use Rattle.slots.proofs.HeaderLaws.{headerAt-same, headerAt-other}
+
+-- ---- the numbers
+
+number-missed : (u : ℕ) → foundNumber (missed u) ≡ missNumber u
+unfolding missed missNumber foundNumber
+number-missed u = go (leb 131072 u) (eqb u 1) (eqb u 2)
+  where
+    go : (a b c : Bool) → foundNumber (pick a Wrong (pick b Wrong (pick c Wrong Nothing))) ≡ cond (a || (b || c)) 2 1
+    go true b c = refl
+    go false true c = refl
+    go false false true = refl
+    go false false false = refl
+
+number-first : (s : List ℕ) (n w : ℕ) → foundNumber (hitFirst s n w) ≡ cond (hits s n w) 0 (missNumber (w / 4294967296))
+unfolding hitFirst hits foundNumber
+number-first s n w = go (ltb (w % 4294967296) n) (eqb (getD s (w % 4294967296 * 8) 0) (w / 4294967296)) (eqb (getD s (w % 4294967296 * 8 + 1) 0) 0)
+  where
+    m : foundNumber (missed (w / 4294967296)) ≡ missNumber (w / 4294967296)
+    m = number-missed (w / 4294967296)
+
+    go : (a b c : Bool) → foundNumber (pick a (pick b (pick c (missed (w / 4294967296)) (At (w % 4294967296))) (missed (w / 4294967296))) (missed (w / 4294967296))) ≡ cond (a && (b && not c)) 0 (missNumber (w / 4294967296))
+    go true true true = m
+    go true true false = refl
+    go true false c = m
+    go false b c = m
+
+pub finds-so : {s : List ℕ} {n w : ℕ} {f : Found} → f ≡ hitFirst s n w → Finds s n w f
+finds-so {s} {n} {w} e = record { is = e; number = ap foundNumber e ∙ number-first s n w }
 
 -- ---- the order
 

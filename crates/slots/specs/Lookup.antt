@@ -1,7 +1,7 @@
 -- Which slot a word reaches (document 01, `get`: "needs equal tag and a present object"; refusals 1 and 2).
 use Prim.Native.Nat.{ℕ, _+_, _*_, _/_, _%_, _≤_, _<_}
 use mathlib.Core.Path.{_≡_}
-use mathlib.Core.Bool.{Bool, true, false}
+use mathlib.Core.Bool.{Bool, true, false, cond, not, _&&_, _||_}
 use mathlib.Core.List.{List}
 use lib.ListN.{getD}
 use lib.Dec.{eqb, ltb, leb}
@@ -27,8 +27,23 @@ hitFirst s n w =
     (missed (w / 4294967296)))
     (missed (w / 4294967296))
 
+-- document 01's number of each case: "1 reaches nothing", "2 .. a word neither nil nor reference"
+unfoldable pub foundNumber : Found → ℕ
+foundNumber (At i) = 0
+foundNumber Nothing = 1
+foundNumber Wrong = 2
+
+-- one of the first n slots has an object and the word's upper half
+unfoldable pub hits : List ℕ → ℕ → ℕ → Bool
+hits s n w = ltb (w % 4294967296) n && (eqb (getD s (w % 4294967296 * 8) 0) (w / 4294967296) && not (eqb (getD s (w % 4294967296 * 8 + 1) 0) 0))
+
+-- where nothing is hit, by the word's upper half: 1 for nil and references
+unfoldable pub missNumber : ℕ → ℕ
+missNumber u = cond (leb 131072 u || (eqb u 1 || eqb u 2)) 2 1
+
 pub record Finds (s : List ℕ) (n w : ℕ) (f : Found) : Type 0 where
   pub is : f ≡ hitFirst s n w
+  pub number : foundNumber f ≡ cond (hits s n w) 0 (missNumber (w / 4294967296))
 
 -- a reference to a slot with this tag: the object there, if there is one and the tag is its own
 unfoldable pub reachedIn : List ℕ → ℕ → ℕ → ℕ → Found

@@ -136,7 +136,7 @@ pub fn write_scalars(scalars: &mut [u64], i: usize, x: Scalars)
 }
 
 // What a word whose upper half is u is, where it reaches no object.
-pub fn miss(u: u64) -> Found
+fn miss(u: u64) -> Found
     ensures { λ r. ⌜ r ≡ missed u ⌝ }
 {
     if 131072 <= u {

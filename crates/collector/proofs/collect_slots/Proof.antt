@@ -1,6 +1,6 @@
 use Rattle.layout.specs.Sections.{layoutOf}
 use Rattle.finalizing.proofs.Keeping.{scanned-room}
-use Rattle.collector.proofs.Ends.{kept-done, kept-short, listed-fits, listed-length, listed-slots, finalized-sweepable, collects}
+use Rattle.collector.proofs.Ends.{kept-done, kept-short, listed-fits, listed-length, listed-slots, finalized-sweepable, collects, ends-short, ends-swept}
 use borrow.Author.Needs.{needs}
 use Rattle.collector.proofs.collect_slots.Statement.{statement}
 use Rattle.collector.proofs.collect_slots.Tie as tie
@@ -45,7 +45,7 @@ same-length-5 c = search needs
 
 -- src/lib.rt:155:9
 returns : tie.Need-returns
-returns c = kept-short _ _ _ _ _ _ _ _ _ _ (c .before .before .before .before .before .before .before .before .mark-kept .ensures) _ _ ((c .enum-told .given) .1)
+returns c = ends-short (kept-short _ _ _ _ _ _ _ _ _ _ (c .before .before .before .before .before .before .before .before .mark-kept .ensures) _ _ ((c .enum-told .given) .1))
 
 -- src/lib.rt:157:26
 slice-reshare-prefix-finalize : tie.Need-slice-reshare-prefix-finalize
@@ -93,7 +93,7 @@ same-length-11 c = search needs
 
 -- src/lib.rt:142:1
 returns-2 : tie.Need-returns-2
-returns-2 c = collects ((c .before .before .before .before .before .before .before .before .before .before .before .before .before .before .before .before .before .before .before .before .before .before .before .before .before .before .before .before .before .before .before .before .before .before .before .before .before .before .before .before .before .before .before .before .before .before .pre) .1 .1 .0) (kept-done _ _ _ _ _ _ _ _ _ _ (c .before .before .before .before .before .before .before .before .before .before .before .before .before .before .before .before .before .before .before .before .before .before .before .before .before .before .before .before .before .before .mark-kept .ensures) ((c .before .before .before .before .before .before .before .before .before .before .before .before .before .before .before .before .before .before .before .before .before .before .kept .given) .1)) (c .before .before .before .before .before .before .before .before .before .before .before .before .before .before .before .before .before .before .finalize .ensures) (c .before .before .before .before .before .before .before .before .before .before .before .sweep .ensures) (c .before .before .before .before .unmark .ensures)
+returns-2 c = ends-swept (collects ((c .before .before .before .before .before .before .before .before .before .before .before .before .before .before .before .before .before .before .before .before .before .before .before .before .before .before .before .before .before .before .before .before .before .before .before .before .before .before .before .before .before .before .before .before .before .before .pre) .1 .1 .0) (kept-done _ _ _ _ _ _ _ _ _ _ (c .before .before .before .before .before .before .before .before .before .before .before .before .before .before .before .before .before .before .before .before .before .before .before .before .before .before .before .before .before .before .mark-kept .ensures) ((c .before .before .before .before .before .before .before .before .before .before .before .before .before .before .before .before .before .before .before .before .before .before .kept .given) .1)) (c .before .before .before .before .before .before .before .before .before .before .before .before .before .before .before .before .before .before .finalize .ensures) (c .before .before .before .before .before .before .before .before .before .before .before .sweep .ensures) (c .before .before .before .before .unmark .ensures))
 
 pub collect-slots-spec : {M : Type 1} → statement M
 collect-slots-spec =

@@ -1,6 +1,7 @@
 -- `slots::find` meets its contract. Assumes nothing.
 use borrow.Author.Tests.{lt-ltb, le-ltb, eq-eqb, ne-eqb}
 use Rattle.slots.specs.Lookup.{hitFirst}
+use Rattle.slots.proofs.LookupLaws.{finds-so}
 use borrow.Author.Needs.{needs}
 use Rattle.slots.proofs.find.Statement.{statement}
 use Rattle.slots.proofs.find.Tie as tie
@@ -10,7 +11,7 @@ miss-requires c κs = search needs
 
 returns : tie.Need-returns
 unfolding hitFirst
-returns c = record { is = simp (le-ltb _ _ (c .before .if1 .taken), c .miss .ensures) }
+returns c = finds-so (simp (le-ltb _ _ (c .before .if1 .taken), c .miss .ensures))
 
 mul-p : tie.Need-mul-p
 mul-p c = search needs
@@ -26,7 +27,7 @@ miss-requires-2 c κs = search needs
 
 returns-2 : tie.Need-returns-2
 unfolding hitFirst
-returns-2 c = record { is = simp (lt-ltb _ _ (c .before .before .before .if1 .left), ne-eqb _ _ (c .before .if2 .taken), c .miss2 .ensures) }
+returns-2 c = finds-so (simp (lt-ltb _ _ (c .before .before .before .if1 .left), ne-eqb _ _ (c .before .if2 .taken), c .miss2 .ensures))
 
 add-if3 : tie.Need-add-if3
 add-if3 c = search needs
@@ -42,11 +43,11 @@ miss-requires-3 c κs = search needs
 
 returns-3 : tie.Need-returns-3
 unfolding hitFirst
-returns-3 c = record { is = simp (lt-ltb _ _ (c .before .before .before .before .before .if1 .left), eq-eqb _ _ (c .before .before .before .if2 .left), eq-eqb _ _ (c .before .if3 .taken), c .miss3 .ensures) }
+returns-3 c = finds-so (simp (lt-ltb _ _ (c .before .before .before .before .before .if1 .left), eq-eqb _ _ (c .before .before .before .if2 .left), eq-eqb _ _ (c .before .if3 .taken), c .miss3 .ensures))
 
 returns-4 : tie.Need-returns-4
 unfolding hitFirst
-returns-4 c = record { is = simp (lt-ltb _ _ (c .before .before .before .before .if1 .left), eq-eqb _ _ (c .before .before .if2 .left), ne-eqb _ _ (c .if3 .left)) }
+returns-4 c = finds-so (simp (lt-ltb _ _ (c .before .before .before .before .if1 .left), eq-eqb _ _ (c .before .before .if2 .left), ne-eqb _ _ (c .if3 .left)))
 
 pub find-spec : {M : Type 1} → statement M
 find-spec =
