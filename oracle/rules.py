@@ -5,7 +5,7 @@ Rust original where it can (it has no refusals 6 to 10, its weights are fixed, a
 import model as M
 from model import M64, encode as e
 
-W = (64, 40, 80, 160, 32)
+W = M.OPEN_CALLSHEET[3:8]
 SCRIPTS = []
 
 
