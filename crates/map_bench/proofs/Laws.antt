@@ -7,29 +7,35 @@ use Prim.Native.Nat.{ℕ, zero, suc, _+_, _-_, _%_, _≤_, _<_}
 use native.Mathlib.Numerals.{add-one}
 use native.Mathlib.Omega.{arith}
 use lib.Dec.{eqb}
+use borrow.Author.Tests.{le-leb, lt-leb, lt-ltb, le-ltb}
 use lib.ListN.{length, getD}
 use Rattle.map_store.specs.Store as S
-use Rattle.map_store.specs.View.{storeOf}
+use Rattle.map_store.specs.View.{storeOf, roomOf}
 use Rattle.map_store.specs.Map.{Good, Became, Valued}
 use Rattle.map_store.specs.declared.MapStore.{MapStore}
-use Rattle.map_bench.specs.Loops.{loaded, bare, Ran, Answered, putTo, removedTo, foundTo, oneOf, front, onward, walked}
+use Rattle.map_bench.specs.Loops.{loaded, bare, Ran, Answered, AnsweredBy, outcomeNumber, putRefusal, putTo, removedTo, foundTo, oneOf, front, onward, walked}
 use Rattle.map_bench.specs.declared.Outcome.{Outcome}
 use Rattle.map_bench.specs.declared.Outcome.the-variants.{Done, Refused}
 
 -- put
 module _ (hash key value : ℕ) (s : MapStore) (cells : List ℕ) where
   pub put-found : (p : ℕ) (cells′ : List ℕ) → some p ≡ S.find false hash key (storeOf s cells) → Valued p value s cells cells′ → Answered hash key value s cells (Done s) cells′
-  unfolding Answered S.putAt
-  put-found p cells′ h X = (X .store ∙ rw (← h), X .good)
+  unfolding AnsweredBy outcomeNumber putRefusal S.putAt
+  put-found p cells′ h X = record { number = rw (← h); leaves = (X .store ∙ rw (← h), X .good) }
 
-  pub put-new : (r : MapStore) (cells′ : List ℕ) (R : S.Room) → none ≡ S.find false hash key (storeOf s cells) → Became (S.inserted false hash key value) R s cells r cells′
-      → Answered hash key value s cells (Done r) cells′
-  unfolding Answered S.putAt
-  put-new r cells′ R h B = (B .store ∙ rw (← h), B .good)
+  module _ (h : none ≡ S.find false hash key (storeOf s cells)) where
+    pub put-spent : 4294967296 ≤ s .fresh → Answered hash key value s cells (Refused 9) cells
+    unfolding AnsweredBy outcomeNumber putRefusal
+    put-spent l = record { number = rw (← h, le-leb 4294967296 (s .fresh) l); leaves = refl }
 
-  pub put-refused : Answered hash key value s cells Refused cells
-  unfolding Answered
-  put-refused = refl
+    module _ (l : s .fresh < 4294967296) {wanted : ℕ} (e : wanted ≡ S.cellsOf (S.roomAfterInsert false key (storeOf s cells) (roomOf s))) where
+      pub put-full : length cells < wanted → Answered hash key value s cells (Refused 7) cells
+      unfolding AnsweredBy outcomeNumber putRefusal
+      put-full m = record { number = rw (← h, lt-leb 4294967296 (s .fresh) l, ← e, lt-ltb (length cells) wanted m); leaves = refl }
+
+      pub put-new : wanted ≤ length cells → (r : MapStore) (cells′ : List ℕ) (R : S.Room) → Became (S.inserted false hash key value) R s cells r cells′ → Answered hash key value s cells (Done r) cells′
+      unfolding AnsweredBy outcomeNumber putRefusal S.putAt
+      put-new m r cells′ R B = record { number = rw (← h, lt-leb 4294967296 (s .fresh) l, ← e, le-ltb (length cells) wanted m); leaves = (B .store ∙ rw (← h), B .good) }
 
 -- no call of the loops notes a key
 fit-noted : (b : Bool) (s : S.Store) → (cond b s (S.becomeHashed s)) .noted ≡ s .noted
@@ -174,16 +180,16 @@ saved m h l e = let z : m .epoch % 4294967296 ≡ m .epoch = omega arith in rw (
 module _ (hs ks words₀ cells₀ cells : List ℕ) (store : MapStore) (i : ℕ) where
   module _ (X : Running (putTo hs ks) words₀ cells₀ cells store i) (out : Outcome) (cells′ : List ℕ) (A : Answered (getD hs i 0) (getD ks i 0) i store cells out cells′) where
     pub put-done : (r : MapStore) → out ≡ Done r → length cells′ ≡ length cells → Running (putTo hs ks) words₀ cells₀ cells′ r (i + 1)
-    unfolding Answered
+    unfolding AnsweredBy
     put-done r e l =
-        let B = subst (λ (o : Outcome). Answered (getD hs i 0) (getD ks i 0) i store cells o cells′) e A in
+        let B = subst (λ (o : Outcome). AnsweredBy (getD hs i 0) (getD ks i 0) i store cells o cells′) e (A .leaves) in
         run-step (putTo hs ks) words₀ cells₀ cells store i X r cells′ l (B .1)
         (B .0 ∙ ap (S.put false (getD hs i 0) (getD ks i 0) i) (X .so-far) ∙ put-turn hs ks i (storeOf (loaded words₀) cells₀))
 
-    pub put-stop : out ≡ Refused → Running (putTo hs ks) words₀ cells₀ cells′ store i
-    unfolding Answered
+    pub put-stop : {n : ℕ} → out ≡ Refused n → Running (putTo hs ks) words₀ cells₀ cells′ store i
+    unfolding AnsweredBy
     put-stop e =
-        let B = subst (λ (o : Outcome). Answered (getD hs i 0) (getD ks i 0) i store cells o cells′) e A in
+        let B = subst (λ (o : Outcome). AnsweredBy (getD hs i 0) (getD ks i 0) i store cells o cells′) e (A .leaves) in
         subst (λ (c : List ℕ). Running (putTo hs ks) words₀ cells₀ c store i) (sym B) X
 
   pub remove-done : Running (removedTo hs ks) words₀ cells₀ cells store i → (r : MapStore) (cells′ : List ℕ) (R : S.Room)

@@ -4,9 +4,9 @@ use mathlib.Core.Bool.{Bool, true, false, cond}
 use mathlib.Core.List.{List}
 use mathlib.Core.Option.{Option, none, some}
 use Prim.Native.Nat.{ℕ, zero, suc, _+_, _%_, _≤_, _<_}
-use lib.Dec.{eqb}
+use lib.Dec.{eqb, leb, ltb}
 use lib.IntN.{pos}
-use lib.ListN.{getD}
+use lib.ListN.{getD, length}
 use Rattle.map_store.specs.Store as S
 use Rattle.map_store.specs.View.{storeOf, roomOf}
 use Rattle.map_store.specs.Map.{Good}
@@ -36,10 +36,25 @@ pub record Ran (rule : S.Store → S.Store) (words cells words′ cells′ : Lis
   pub store : storeOf (loaded words′) cells′ ≡ rule (storeOf (loaded words) cells)
   pub good : Good (loaded words′) cells′
 
--- put: refused where the key is absent and the numbers are spent or the cells too few
-unfoldable pub Answered : ℕ → ℕ → ℕ → MapStore → List ℕ → Outcome → List ℕ → Type 0
-Answered hash key value s cells (Done r) cells′ = (storeOf r cells′ ≡ S.put false hash key value (storeOf s cells)) × Good r cells′
-Answered hash key value s cells Refused cells′ = cells′ ≡ cells
+-- document 01's number of each case
+unfoldable pub outcomeNumber : Outcome → ℕ
+outcomeNumber (Done r) = 0
+outcomeNumber (Refused n) = n
+
+-- put: where the key is absent, "9 a map's 2^32 sequence numbers are spent", then "7 no cells"
+unfoldable pub putRefusal : Option ℕ → ℕ → MapStore → List ℕ → ℕ
+putRefusal (some p) key s cells = 0
+putRefusal none key s cells =
+    cond (leb 4294967296 (s .fresh)) 9
+    (cond (ltb (length cells) (S.cellsOf (S.roomAfterInsert false key (storeOf s cells) (roomOf s)))) 7 0)
+
+unfoldable pub AnsweredBy : ℕ → ℕ → ℕ → MapStore → List ℕ → Outcome → List ℕ → Type 0
+AnsweredBy hash key value s cells (Done r) cells′ = (storeOf r cells′ ≡ S.put false hash key value (storeOf s cells)) × Good r cells′
+AnsweredBy hash key value s cells (Refused n) cells′ = cells′ ≡ cells
+
+pub record Answered (hash key value : ℕ) (s : MapStore) (cells : List ℕ) (r : Outcome) (cells′ : List ℕ) : Type 0 where
+  pub number : outcomeNumber r ≡ putRefusal (S.find false hash key (storeOf s cells)) key s cells
+  pub leaves : AnsweredBy hash key value s cells r cells′
 
 -- the first n keys put, and removed
 unfoldable pub putTo : List ℕ → List ℕ → ℕ → S.Store → S.Store

@@ -9,9 +9,10 @@ ghost use Rattle.map_store.specs.View.{storeOf};
 ghost use Rattle.map_store.specs.Map.{Good};
 ghost use Rattle.map_bench.specs.Loops.{loaded, bare, Ran, Answered, putTo, removedTo, foundTo, walked, front};
 
+// The store after a put, or the number of the refusal.
 pub enum Outcome {
     Done(MapStore),
-    Refused,
+    Refused(u64),
 }
 
 fn load(words: &[u64; 7]) -> MapStore
@@ -67,14 +68,15 @@ fn put(store: MapStore, cells: &mut [u64], hash: u64, key: u64, value: u64) -> O
             return Outcome::Done(store);
         }
         Found::Nothing => {
-            if store.fresh < 4294967296 {
-                let wanted = map_store::cells_after_insert(store, cells, false, key);
-                if wanted <= cells.len() {
-                    let r = map_store::insert(store, cells, false, hash, key, value);
-                    return Outcome::Done(r);
-                }
+            if 4294967296 <= store.fresh {
+                return Outcome::Refused(9);
             }
-            return Outcome::Refused;
+            let wanted = map_store::cells_after_insert(store, cells, false, key);
+            if cells.len() < wanted {
+                return Outcome::Refused(7);
+            }
+            let r = map_store::insert(store, cells, false, hash, key, value);
+            return Outcome::Done(r);
         }
     }
 }

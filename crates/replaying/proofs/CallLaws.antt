@@ -2,6 +2,7 @@
 use Prim.Native.Nat.{ℕ, _+_, _-_, _*_, _≤_, _<_}
 use mathlib.Core.Path.{_≡_, refl, sym, ap, subst, _∙_}
 use mathlib.Core.List.{List, [], _∷_, _++_}
+use mathlib.Core.Option.{some}
 use native.Mathlib.Omega.{arith}
 use native.Mathlib.Numerals.{add-one}
 use lib.ListN.{length, getD, set, take, drop, length-set, length-take}
@@ -37,9 +38,10 @@ use Rattle.commands.specs.Shows.{shownOf}
 use Rattle.replaying.specs.Lines.{lineText}
 use Rattle.history.proofs.Facts.{eqb-no, eqb-yes, leb-no, leb-yes}
 use Rattle.slots.proofs.Cases.{by-cases, same-or-not}
-use Rattle.replaying.specs.Turns.{CallLine, EndLine, Filled, Advances, RootLine, SessionReady, adjusted, callCode, filled, importWord, layoutIn, lentBytes, lentPlaces, movedTo, openCells, openKind, openSlots, openedText, openingIn, heapIn, performedText, seated, shownBytes}
+use Rattle.replaying.specs.Turns.{CallLine, EndLine, Filled, Advances, RootLine, SessionReady, StartAnswer, Starts, adjusted, callCode, filled, firstOpening, firstSession, firstState, importWord, layoutIn, lentBytes, lentPlaces, movedTo, openCells, openKind, openSlots, openedText, openingIn, heapIn, performedText, seated, shownBytes, startedBy, startedIs}
 use Rattle.replaying.specs.declared.Session.{Session}
 use Rattle.script.specs.declared.Call.{Call}
+use Rattle.replaying.specs.declared.Started.{Started}
 use Rattle.replaying.specs.declared.Started.the-variants as Start
 
 -- the cells lent are the first
@@ -139,13 +141,16 @@ module _ {o : Opening} {t : State} {x y : Beside} {r : Opened} (k : Opens o t x 
       go true z a = (z, cc)
       go false z a = let w : _≡_ {A = ℕ} 0 1 = cc in absurd (omega arith)
 
-  pub opened-no : (q : Refusal) → r ≡ Open.Refused q → y ≡ x
+  opened-false : (q : Refusal) → r ≡ Open.Refused q → accepts o t x ≡ false
   unfolding openedBy
-  opened-no q e = go (accepts o t x) refl (k .answer)
+  opened-false q e = go (accepts o t x) refl (k .answer)
     where
-      go : (b : Bool) → accepts o t x ≡ b → r ≡ openedBy b (t .heap) → y ≡ x
+      go : (b : Bool) → accepts o t x ≡ b → r ≡ openedBy b (t .heap) → accepts o t x ≡ false
       go true z a = let w : _≡_ {A = ℕ} 0 1 = cc in absurd (omega arith)
-      go false z a = k .refused z
+      go false z a = z
+
+  pub opened-no : (q : Refusal) → r ≡ Open.Refused q → y ≡ x
+  opened-no q e = k .refused (opened-false q e)
 
 pub opened-sits : {input s x f d c marks order table marks′ order′ table′ : List ℕ} {size limit : ℕ} {weights : Weights} (n from to at end : ℕ) {a : Opened} (h : Heap) → Opens (openingOf size n limit weights (take (to - from) (drop from input))) (state (newHeap size limit weights) s x f d (take n c)) (beside table marks order) a (beside table′ marks′ order′) → a ≡ Open.Ready h →
     n ≤ length c → from ≤ to → to ≤ length input → at ≤ length input → SessionReady input s x f d c marks′ order′ table′ (record { heap = h; count = 0; room = n; from = from; to = to; at = at; end = end })
@@ -166,8 +171,31 @@ kept-sits q k e g =
 pub cells-few : (slots cells kind n : ℕ) → kind ≡ openKind slots cells → n ≡ openCells kind cells → n ≤ 65536
 cells-few slots cells kind n e z = rw (z, e) (cells-fit slots cells)
 
-pub started-sits : {input s x f d c marks order table : List ℕ} (q p : Session) → Start.Ready q ≡ Start.Ready p → SessionReady input s x f d c marks order table q → SessionReady input s x f d c marks order table p
-started-sits q p e g = let z : q ≡ p = cc in rw z at g
+-- ---- the first heap
+
+module _ {input s v f d c : List ℕ} {x y : Beside} {r : Opened} (k : Opens (firstOpening input) (firstState s v f d c) x r y) where
+  pub starts-open : {h : Heap} → r ≡ Open.Ready h → Starts input s v f d c x (Start.Ready record { heap = h; count = 0; room = 2048; from = 0; to = 1; at = 1; end = 0 }) y
+  unfolding startedIs startedBy
+  starts-open {h} e = let z = opened-yes k h e in record { answer = rw (z .0, z .1); accepted = k .accepted; refused = k .refused }
+
+  pub starts-refused : {q : Refusal} → r ≡ Open.Refused q → Starts input s v f d c x Start.Refused y
+  unfolding startedIs startedBy
+  starts-refused {q} e = record { answer = rw (opened-false k q e); accepted = k .accepted; refused = k .refused }
+
+module _ {input s v f d c table marks order table′ marks′ order′ : List ℕ} {r : Started} (k : Starts input s v f d c (beside table marks order) r (beside table′ marks′ order′)) where
+  started-yes : {p : Session} → r ≡ Start.Ready p → (accepts (firstOpening input) (firstState s v f d c) (beside table marks order) ≡ true) × (p ≡ firstSession)
+  unfolding startedIs startedBy
+  started-yes {p} e = go (accepts (firstOpening input) (firstState s v f d c) (beside table marks order)) refl (ap (λ (a : StartAnswer). a .session) (sym (ap startedIs e) ∙ k .answer))
+    where
+      go : (b : Bool) → accepts (firstOpening input) (firstState s v f d c) (beside table marks order) ≡ b → some p ≡ (startedBy b) .session → (accepts (firstOpening input) (firstState s v f d c) (beside table marks order) ≡ true) × (p ≡ firstSession)
+      go true z a = (z, cc)
+      go false z a = let w : _≡_ {A = ℕ} 0 1 = cc in absurd (omega arith)
+
+  pub started-ready : {p : Session} → r ≡ Start.Ready p → 2048 ≤ length c → 1 ≤ length input → SessionReady input s v f d c marks′ order′ table′ p
+  started-ready e room low =
+      let z = started-yes e in
+      let q = k .accepted (z .0) in
+      rw (z .1) record { ready = record { good = q .good; rested = q .rested; tabled = q .tabled }; room = room; layout = omega arith; within = low; few = omega arith; inside = low }
 
 -- ---- turns
 

@@ -1,8 +1,9 @@
 -- A command's call with the memory lent to it, and its line.
 use Prim.Native.Nat.{ℕ, zero, suc, _+_, _-_, _*_, _≤_, _<_}
 use mathlib.Core.Path.{_≡_}
-use mathlib.Core.Bool.{true, false, cond, _&&_}
+use mathlib.Core.Bool.{Bool, true, false, cond, _&&_}
 use mathlib.Core.List.{List, [], _∷_, _++_}
+use mathlib.Core.Option.{Option, none, some}
 use lib.Dec.{eqb, leb}
 use lib.ListN.{length, getD, take, drop}
 use Rattle.layout.specs.Layout.{Layout}
@@ -10,7 +11,7 @@ use Rattle.layout.specs.Sections.{layoutOf}
 use Rattle.history.proofs.Lift.{seen}
 use Rattle.model.specs.Calls.{is-import}
 use Rattle.model.specs.Step.{step}
-use Rattle.model.specs.Callsheet.{digits, printed}
+use Rattle.model.specs.Callsheet.{digits, printed, sheetOpening}
 use Rattle.heap.specs.State.{State, modelOf, state}
 use Rattle.heap.specs.Good.{Ready}
 use Rattle.heap.specs.declared.Opened.{Opened}
@@ -26,10 +27,12 @@ use Rattle.commands.specs.Lists.{CommandedBy}
 use Rattle.model.specs.Opening.{Opening}
 use Rattle.model.specs.declared.Weights.{Weights}
 use Rattle.heap.specs.declared.Heap.{Heap}
-use Rattle.heap.specs.Opens.{Beside, Opens, beside, newHeap, openingOf}
+use Rattle.heap.specs.Opens.{Accepts, Beside, Opens, accepts, beside, newHeap, openingOf}
 use Rattle.script.specs.declared.Call.{Call}
 use Rattle.script.specs.Reads.{Reads}
 use Rattle.replaying.specs.declared.Session.{Session}
+use Rattle.replaying.specs.declared.Started.{Started}
+use Rattle.replaying.specs.declared.Started.the-variants as Start
 use Rattle.replaying.specs.Lines.{lineText, withLast, withSecond}
 
 -- 0C is 0F with the roots given so far
@@ -68,6 +71,38 @@ pub record SessionReady (input s x f d c marks order table : List ℕ) (p : Sess
   pub within : p .to ≤ length input
   pub few : p .count ≤ 64
   pub inside : p .at ≤ length input
+
+-- ---- the first heap
+
+-- "It opens 256 slots, 2,048 cells, limit 1,048,576, weights 64, 40, 80, 160, 32"; the layout is the first byte of the input
+abbrev pub firstOpening : List ℕ → Opening
+firstOpening input = openingOf 256 2048 1048576 (sheetOpening .weights) (take 1 input)
+
+abbrev pub firstState : List ℕ → List ℕ → List ℕ → List ℕ → List ℕ → State
+firstState s x f d c = state (newHeap 256 1048576 (sheetOpening .weights)) s x f d (take 2048 c)
+
+-- without roots; the first command stands behind the layout
+abbrev pub firstSession : Session
+firstSession = record { heap = newHeap 256 1048576 (sheetOpening .weights); count = 0; room = 2048; from = 0; to = 1; at = 1; end = 0 }
+
+-- document 01's number, and the session if the heap is open
+pub record StartAnswer : Type 0 where
+  pub refusal : ℕ
+  pub session : Option Session
+
+unfoldable pub startedIs : Started → StartAnswer
+startedIs (Start.Ready p) = record { refusal = 0; session = some p }
+startedIs Start.Refused = record { refusal = 10; session = none }
+
+unfoldable pub startedBy : Bool → StartAnswer
+startedBy true = record { refusal = 0; session = some firstSession }
+startedBy false = record { refusal = 10; session = none }
+
+-- x and y: what is lent beside the heap's buffers, before and after; a refusal leaves it
+pub record Starts (input s v f d c : List ℕ) (x : Beside) (r : Started) (y : Beside) : Type 0 where
+  pub answer : startedIs r ≡ startedBy (accepts (firstOpening input) (firstState s v f d c) x)
+  pub accepted : accepts (firstOpening input) (firstState s v f d c) x ≡ true → Accepts (firstOpening input) (firstState s v f d c) x y
+  pub refused : accepts (firstOpening input) (firstState s v f d c) x ≡ false → y ≡ x
 
 -- the call of the command n on the state b, with the words, frames, bytes and places lent to it, left the state a and the bytes and places, and its
 -- line is put into out

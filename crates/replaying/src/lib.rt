@@ -13,7 +13,7 @@ ghost use Rattle.heap.specs.Good.{Good, Ready};
 ghost use Rattle.heap.specs.Opens.{Opens, beside, newHeap, openingOf};
 ghost use Rattle.commands.specs.Commands.{commandCall};
 ghost use Rattle.commands.specs.Lists.{CommandedBy};
-ghost use Rattle.replaying.specs.Turns.{CallLine, EndLine, Filled, Advances, LentLine, OpenLine, RootLine, SessionReady, Turned, adjusted, callCode, heapIn, importWord, layoutIn, movedTo, openCells, openKind, openSlots, openedText, openingIn, performedText, seated, shownBytes, weightsIn};
+ghost use Rattle.replaying.specs.Turns.{CallLine, EndLine, Filled, Advances, LentLine, OpenLine, RootLine, SessionReady, Starts, Turned, adjusted, callCode, heapIn, importWord, layoutIn, movedTo, openCells, openKind, openSlots, openedText, openingIn, performedText, seated, shownBytes, weightsIn};
 ghost use Rattle.script.specs.Reads as Script;
 ghost use Rattle.text.specs.Puts.{Puts};
 ghost use Rattle.replaying.specs.Lines.{answerForms, bufferText, extraText, fieldText, forms, formsOf, hasSecond, hexText, lentText, lineText, listText, withLast, withSecond};
@@ -941,7 +941,7 @@ pub fn start(
     input: &[u8],
 ) -> Started
     requires { ⌜ (2048 ≤ length (now cells)) × (1 ≤ length (now input)) ⌝ }
-    ensures { λ r. ⌜ ((p : Session) → r ≡ Started.Ready p → SessionReady (now (input .entry)) (now (slots .entry)) (now (scalars .entry)) (now (list .entry)) (now (directory .entry)) (now (cells .entry)) (now (marks .exit)) (now (order .exit)) (now (table .exit)) p) ⌝ }
+    ensures { λ r. ⌜ Starts (now (input .entry)) (now (slots .entry)) (now (scalars .entry)) (now (list .entry)) (now (directory .entry)) (now (cells .entry)) (beside (now (table .entry)) (now (marks .entry)) (now (order .entry))) r (beside (now (table .exit)) (now (marks .exit)) (now (order .exit))) ⌝ }
 {
     let weights = Weights {
         slot: 64,

@@ -1,7 +1,4 @@
-use native.Mathlib.Omega.{arith}
-use Prim.Native.Nat.{ℕ}
-use mathlib.Core.Path.{_≡_}
-use Rattle.replaying.proofs.CallLaws.{opened-sits, started-sits}
+use Rattle.replaying.proofs.CallLaws.{starts-open, starts-refused}
 use borrow.Author.Needs.{needs}
 use Rattle.replaying.proofs.start.Statement.{statement}
 use Rattle.replaying.proofs.start.Tie as tie
@@ -25,7 +22,10 @@ same-length-3 : tie.Need-same-length-3
 same-length-3 c = search needs
 
 returns : tie.Need-returns
-returns c = λ p e. let z : _≡_ {A = ℕ} 0 1 = cc in absurd (omega arith)
+returns c =
+    let at-open : tie.After-open-in = search in
+    let at-q : tie.After-q = search in
+    starts-refused (at-open .open-in .ensures) (at-q .q .given .1)
 
 same-length-4 : tie.Need-same-length-4
 same-length-4 c = search needs
@@ -37,7 +37,10 @@ same-length-6 : tie.Need-same-length-6
 same-length-6 c = search needs
 
 returns-2 : tie.Need-returns-2
-returns-2 c = λ p e. started-sits _ p e (opened-sits 2048 0 1 1 0 _ (c .before .before .before .before .before .before .before .before .before .open-in .ensures) ((c .before .h .given .1)) (omega (arith, (c .before .before .before .before .before .before .before .before .before .before .before .before .before .before .before .before .before .before .before .before .before .before .pre))) (omega arith) (omega (arith, (c .before .before .before .before .before .before .before .before .before .before .before .before .before .before .before .before .before .before .before .before .before .before .pre))) (omega (arith, (c .before .before .before .before .before .before .before .before .before .before .before .before .before .before .before .before .before .before .before .before .before .before .pre))))
+returns-2 c =
+    let at-h : tie.After-h = search in
+    let at-open : tie.After-open-in = search in
+    starts-open (at-open .open-in .ensures) (at-h .h .given .1)
 
 pub start-spec : {M : Type 1} → statement M
 start-spec =
