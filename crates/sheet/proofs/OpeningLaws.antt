@@ -1,13 +1,14 @@
 -- The heap that document 01's program opens. Assumes nothing.
-use Prim.Native.Nat.{ℕ, _*_, _≤_, min}
-use mathlib.Core.Path.{_≡_, refl, sym, ap, _∙_}
-use mathlib.Core.Bool.{true, false, _&&_}
+use Prim.Native.Nat.{ℕ, _*_, _≤_, _<_, min}
+use mathlib.Core.Path.{_≡_, refl, sym, ap, ap₂, _∙_}
+use mathlib.Core.Bool.{Bool, true, false, _&&_}
 use mathlib.Core.List.{List, [], _∷_}
 use mathlib.Core.Option.{Option, none, some}
 use native.Mathlib.Omega.{arith}
 use lib.Dec.{leb}
-use lib.ListN.{length, take}
+use lib.ListN.{length, take, length-take}
 use lib.Seq.{length-take-le, take-all, take-take}
+use Rattle.history.proofs.Facts.{leb-no, leb-yes}
 use Rattle.slots.proofs.Cases.{by-cases, lt-or-le}
 use Rattle.layout.specs.Layout as Layout-
 use Rattle.layout.specs.Sections.{layoutOf}
@@ -23,7 +24,9 @@ use Rattle.heap.specs.declared.Opened.{Opened}
 use Rattle.heap.specs.declared.Opened.the-variants.{Ready, Refused}
 use Rattle.heap.specs.declared.Refusal.{Refusal}
 use Rattle.sheet.specs.Turns.{textFrom}
-use Rattle.sheet.specs.Promise.{Prints, sheetOf}
+use Rattle.sheet.specs.Promise.{Answers, Page, Prints, pageIs, pageOf, sheetOf, sheetRoom}
+use Rattle.sheet.specs.declared.Printed.{Printed}
+use Rattle.sheet.specs.declared.Printed.the-variants.{Short, Text}
 
 sheet-opens : open-heap sheetOpening ≡ some sheetHeap
 unfolding open-heap openWith sizesFit sheetHeap Layout-.atLast Layout-.withStruct Layout-.withField Layout-.withFunction Layout-.withRegister Layout-.withCapture Layout-.when Layout-.command Layout-.byte Layout-.proceed Layout-.reading Layout-.parse
@@ -72,7 +75,7 @@ module _ {s x f d c : List ℕ} {b y : Beside} {r : Opened} (z : Buffers s x f d
     pub opened-ready : Good.Ready (state h s x f d c) (y .marks) (y .order) (0 ∷ []) (y .table)
     opened-ready = let q = p .accepted accepted in rw opened-heap record { good = q .good; rested = q .rested; tabled = q .tabled }
 
-    pub opened-prints : (input : List ℕ) {out : List ℕ} {end : ℕ} → length input ≤ 65536 → Prints (textFrom (sheetOf (layoutOf (0 ∷ [])) (state h s x f d c) []) input) out end → Prints (sheetText input) out end
+    pub opened-prints : (input : List ℕ) {out out′ : List ℕ} {end : ℕ} → length input ≤ 65536 → Prints (textFrom (sheetOf (layoutOf (0 ∷ [])) (state h s x f d c) []) input) out out′ end → Prints (sheetText input) out out′ end
     unfolding sheetText textFrom
     opened-prints input l q =
         let a : take 65536 input ≡ input = take-all 65536 input l in
@@ -93,9 +96,40 @@ module _ (input : List ℕ) (n : ℕ) (e : n ≡ min (length input) 65536) where
   pub first-few : length (take n input) ≤ 65536
   first-few = omega (arith, length-take-le n input first-within)
 
-  pub first-room : (room : ℕ) → min (length input) 65536 * 62 ≤ room → length (take n input) * 62 ≤ room
+  pub first-room : (room : ℕ) → n * 62 ≤ room → length (take n input) * 62 ≤ room
   first-room room h = omega (arith, length-take-le n input first-within)
 
-  pub first-prints : {out : List ℕ} {end : ℕ} → Prints (sheetText (take n input)) out end → Prints (sheetText input) out end
+  first-text : sheetText (take n input) ≡ sheetText input
   unfolding sheetText
-  first-prints p = rw (first-bytes, take-take 65536 65536 input (omega arith)) at p
+  first-text = rw (first-bytes, take-take 65536 65536 input (omega arith))
+
+  pub short-answers : {out : List ℕ} → length out < n * 62 → Answers input out Short out
+  unfolding pageIs pageOf
+  short-answers {out} h =
+      let z : leb (sheetRoom input) (length out) ≡ false = leb-no (sheetRoom input) (length out) (omega arith) in
+      record { page = rw z; rest = refl }
+
+  pub text-answers : {out out′ : List ℕ} (end : ℕ) → n * 62 ≤ length out → Prints (sheetText (take n input)) out out′ end → Answers input out (Text end) out′
+  unfolding pageIs pageOf
+  text-answers {out} {out′} end h p =
+      let z : leb (sheetRoom input) (length out) ≡ true = leb-yes (sheetRoom input) (length out) (omega arith) in
+      let t : take end out′ ≡ sheetText input = p .text ∙ first-text in
+      let e : end ≡ length (sheetText input) = p .ends ∙ ap length t in
+      record { page = rw z (ap₂ (λ (x : ℕ) (y : List ℕ). record { refusal = 0; size = x; text = y }) e t); rest = p .rest }
+
+-- the text lies in the buffer
+pub text-within : {input out out′ : List ℕ} {r : Printed} (n : ℕ) → Answers input out r out′ → r ≡ Text n → n ≤ length out′
+unfolding pageIs pageOf
+text-within {input} {out} {out′} n a e = go (leb (sheetRoom input) (length out)) refl
+  where
+    same : pageIs (Text n) out′ ≡ pageOf input (length out)
+    same = ap (λ (x : Printed). pageIs x out′) (sym e) ∙ a .page
+
+    go : (t : Bool) → leb (sheetRoom input) (length out) ≡ t → n ≤ length out′
+    go true z =
+        let p : pageOf input (length out) ≡ record { refusal = 0; size = length (sheetText input); text = sheetText input } = rw z in
+        let q = same ∙ p in
+        omega (arith, ap (λ (x : Page). x .size) q, ap (λ (x : Page). length (x .text)) q, length-take n out′)
+    go false z =
+        let p : pageOf input (length out) ≡ record { refusal = 8; size = 0; text = [] } = rw z in
+        omega (arith, ap (λ (x : Page). x .size) (same ∙ p))

@@ -1,5 +1,5 @@
 -- What the functions promise, from the heap's state and the roots before to those after.
-use Prim.Native.Nat.{ℕ, _+_, _*_, _≤_, _<_}
+use Prim.Native.Nat.{ℕ, _+_, _*_, _≤_, _<_, min}
 use mathlib.Core.Path.{_≡_}
 use mathlib.Core.Bool.{cond}
 use mathlib.Core.List.{List, [], _∷_, _++_}
@@ -10,10 +10,12 @@ use Rattle.history.proofs.Lift.{Seen, seen}
 use Rattle.text.specs.Puts.{Puts}
 use Rattle.model.specs.Calls.{Call}
 use Rattle.model.specs.Step.{step}
-use Rattle.model.specs.Callsheet.{Sheet, answerWord, commanded}
+use Rattle.model.specs.Callsheet.{Sheet, answerWord, commanded, sheetText}
 use Rattle.heap.specs.declared.Heap.{Heap}
 use Rattle.heap.specs.State.{State, modelOf}
 use Rattle.heap.specs.Good.{Good}
+use Rattle.sheet.specs.declared.Printed.{Printed}
+use Rattle.sheet.specs.declared.Printed.the-variants.{Short, Text}
 use Rattle.sheet.specs.declared.Shown.{Shown}
 use Rattle.sheet.specs.Turns.{turnOf}
 
@@ -54,8 +56,33 @@ pub record Turns (s : Sheet) (input : List ℕ) (at : ℕ) (out : List ℕ) (end
   pub onward : at < at′
   pub within : at′ ≤ length input
 
--- the text of all commands is put into out, up to r
-pub record Prints (t out : List ℕ) (r : ℕ) : Type 0 where
-  pub text : take r out ≡ t
-  pub ends : r ≡ length (take r out)
-  pub within : r ≤ length out
+-- the text of all commands is put into out, up to r: what stands behind it stays
+pub record Prints (t out out′ : List ℕ) (r : ℕ) : Type 0 where
+  pub text : take r out′ ≡ t
+  pub ends : r ≡ length (take r out′)
+  pub within : r ≤ length out′
+  pub rest : drop r out′ ≡ drop r out
+
+-- what the program answers: document 01's number, how many bytes of text, and the text, in the first places of the buffer
+pub record Page : Type 0 where
+  pub refusal : ℕ
+  pub size : ℕ
+  pub text : List ℕ
+
+-- 8: a lent buffer that is too short
+unfoldable pub pageIs : Printed → List ℕ → Page
+pageIs (Text n) out = record { refusal = 0; size = n; text = take n out }
+pageIs Short out = record { refusal = 8; size = 0; text = [] }
+
+-- 62 bytes for each byte of input that counts: a line takes at most 62 bytes, a command at least one
+abbrev pub sheetRoom : List ℕ → ℕ
+sheetRoom input = min (length input) 65536 * 62
+
+-- the page for this input in a buffer of so many bytes
+unfoldable pub pageOf : List ℕ → ℕ → Page
+pageOf input n = cond (leb (sheetRoom input) n) (record { refusal = 0; size = length (sheetText input); text = sheetText input }) (record { refusal = 8; size = 0; text = [] })
+
+-- what is answered and stands in the buffer is the program's page; what stands behind the text, of a refusal the whole buffer, stays
+pub record Answers (input out : List ℕ) (r : Printed) (out′ : List ℕ) : Type 0 where
+  pub page : pageIs r out′ ≡ pageOf input (length out)
+  pub rest : drop ((pageIs r out′) .size) out′ ≡ drop ((pageIs r out′) .size) out

@@ -15,7 +15,7 @@ ghost use Rattle.heap.specs.Answers.{numberOf, readingIs};
 ghost use Rattle.heap.specs.State.{state};
 ghost use Rattle.heap.specs.Good.{Good, Ready};
 ghost use Rattle.sheet.specs.Turns.{Supplied, operandsIs, textFrom};
-ghost use Rattle.sheet.specs.Promise.{Commands, Prints, Rooted, Roots, Shows, Turns, sheetOf, shownOf};
+ghost use Rattle.sheet.specs.Promise.{Answers, Commands, Prints, Rooted, Roots, Shows, Turns, sheetOf, shownOf};
 ghost use Rattle.collector.specs.Answer.{collectionIs};
 use collector::Collection;
 use heap::Heap;
@@ -28,6 +28,12 @@ use model::Weights;
 pub enum Operands {
     Bytes(usize),
     Missing,
+}
+
+// The program's answer: so many bytes of text, or the lent buffer is too short.
+pub enum Printed {
+    Text(usize),
+    Short,
 }
 
 // What a line shows of a call, and the heap's record after it.
@@ -458,7 +464,7 @@ fn play(
     requires { ⌜ Ready (state heap (now slots) (now scalars) (now list) (now directory) (now cells)) (now marks) (now order) (now layout) (now table) ⌝ }
     requires { ⌜ 64 ≤ length (now roots) ⌝ }
     requires { ⌜ length (now input) * 62 ≤ length (now out) ⌝ }
-    ensures { λ r. ⌜ Prints (textFrom (sheetOf (layoutOf (now (layout .entry))) (state heap (now (slots .entry)) (now (scalars .entry)) (now (list .entry)) (now (directory .entry)) (now (cells .entry))) []) (now (input .entry))) (now (out .exit)) r ⌝ }
+    ensures { λ r. ⌜ Prints (textFrom (sheetOf (layoutOf (now (layout .entry))) (state heap (now (slots .entry)) (now (scalars .entry)) (now (list .entry)) (now (directory .entry)) (now (cells .entry))) []) (now (input .entry))) (now (out .entry)) (now (out .exit)) r ⌝ }
 {
     let mut h = heap;
     let mut count: usize = 0;
@@ -509,7 +515,7 @@ fn run_in(
     requires { ⌜ (length (now marks) ≡ 256) × (length (now order) ≡ 512) × (length (now table) ≡ 514) × (length (now roots) ≡ 64) ⌝ }
     requires { ⌜ length (now input) * 62 ≤ length (now out) ⌝ }
     requires { ⌜ length (now input) ≤ 65536 ⌝ }
-    ensures { λ r. ⌜ Prints (sheetText (now (input .entry))) (now (out .exit)) r ⌝ }
+    ensures { λ r. ⌜ Prints (sheetText (now (input .entry))) (now (out .entry)) (now (out .exit)) r ⌝ }
 {
     let layout = [0u8; 1];
     let weights = Weights {
@@ -569,11 +575,11 @@ pub fn text_buffer() -> [u8; 4063232]
     [0; 4063232]
 }
 
-// Document 01's program `callsheet`: the text that it prints for the bytes of its standard input, of
-// which the first 65,536 count. A line takes at most 62 bytes, a command at least one.
-pub fn run(input: &[u8], out: &mut [u8]) -> usize
-    requires { ⌜ min (length (now input)) 65536 * 62 ≤ length (now out) ⌝ }
-    ensures { λ r. ⌜ Prints (sheetText (now (input .entry))) (now (out .exit)) r ⌝ }
+// The commands of at most 65,536 bytes, over a new heap.
+fn run_new(input: &[u8], out: &mut [u8]) -> usize
+    requires { ⌜ length (now input) * 62 ≤ length (now out) ⌝ }
+    requires { ⌜ length (now input) ≤ 65536 ⌝ }
+    ensures { λ r. ⌜ Prints (sheetText (now (input .entry))) (now (out .entry)) (now (out .exit)) r ⌝ }
 {
     let mut slots = [0u64; 2048];
     let mut scalars = [0u64; 2048];
@@ -584,7 +590,6 @@ pub fn run(input: &[u8], out: &mut [u8]) -> usize
     let mut order = [0u32; 512];
     let mut table = [0u64; 514];
     let mut roots = [0u64; 64];
-    let n = first_bytes(input.len());
     run_in(
         &mut slots,
         &mut scalars,
@@ -595,7 +600,21 @@ pub fn run(input: &[u8], out: &mut [u8]) -> usize
         &mut order,
         &mut table,
         &mut roots,
-        &input[..n],
+        input,
         out,
     )
+}
+
+// Document 01's program `callsheet`: the text that it prints for the bytes of its standard input, of
+// which the first 65,536 count. A line takes at most 62 bytes, a command at least one; a buffer with
+// less room is refused.
+pub fn run(input: &[u8], out: &mut [u8]) -> Printed
+    ensures { λ r. ⌜ Answers (now (input .entry)) (now (out .entry)) r (now (out .exit)) ⌝ }
+{
+    let n = first_bytes(input.len());
+    if out.len() < n * 62 {
+        return Printed::Short;
+    }
+    let end = run_new(&input[..n], out);
+    Printed::Text(end)
 }

@@ -6,7 +6,7 @@ use native.Mathlib.Omega.{arith}
 use native.Mathlib.Numerals.{add-one}
 use native.Mathlib.Nat.{add-zero, sub-zero}
 use lib.ListN.{length, getD, set, take, drop, length-append, length-set}
-use lib.Seq.{take-suc-set, take-set-le, take-add, drop-cons, getD-set-same, drop-set-lt}
+use lib.Seq.{take-suc-set, take-set-le, take-add, drop-cons, drop-drop, getD-set-same, drop-set-lt}
 use Rattle.model.specs.Callsheet.{digit, digits, printed}
 use Rattle.text.specs.Puts.{Puts}
 use Rattle.text.specs.Lines.{lineFields, lineHead}
@@ -14,14 +14,21 @@ use Rattle.text.proofs.DigitsLaws.{length-digits, decimal-most}
 
 -- nothing put yet
 pub puts-none : (out : List ℕ) (at : ℕ) → Puts [] out at out at
-puts-none out at = record { size = refl; ends = omega arith; text = sym (append-nil (take at out)) }
+puts-none out at = record { size = refl; ends = omega arith; text = sym (append-nil (take at out)); rest = refl }
+
+-- what stays behind a place stays behind a later one
+pub drop-later : (out out₁ : List ℕ) (a b : ℕ) → a ≤ b → drop a out₁ ≡ drop a out → drop b out₁ ≡ drop b out
+drop-later out out₁ a b h e =
+    let z : b ≡ a + (b - a) = omega arith in
+    ap (λ (n : ℕ). drop n out₁) z ∙ sym (drop-drop (b - a) a out₁) ∙ ap (drop (b - a)) e ∙ drop-drop (b - a) a out ∙ ap (λ (n : ℕ). drop n out) (sym z)
 
 -- one text behind another
 pub puts-append : {t₁ t₂ out : List ℕ} {at : ℕ} {out₁ : List ℕ} {r₁ : ℕ} {out₂ : List ℕ} {r₂ : ℕ} → Puts t₁ out at out₁ r₁ → Puts t₂ out₁ r₁ out₂ r₂ → Puts (t₁ ++ t₂) out at out₂ r₂
-puts-append {t₁} {t₂} {out} {at} p q = record {
+puts-append {t₁} {t₂} {out} {at} {out₁} {r₁} {out₂} {r₂} p q = record {
   size = q .size ∙ p .size;
   ends = omega (arith, p .ends, q .ends, length-append t₁ t₂);
   text = q .text ∙ ap (λ (l : List ℕ). l ++ t₂) (p .text) ∙ append-assoc (take at out) t₁ t₂;
+  rest = q .rest ∙ drop-later out out₁ r₁ r₂ (omega (arith, q .ends)) (p .rest);
 }
 
 -- another name for the same text
@@ -33,6 +40,7 @@ puts-byte out at b h = record {
   size = length-set out at b;
   ends = refl;
   text = rw (add-one at) (take-suc-set out at b h);
+  rest = drop-set-lt (at + 1) out at b (omega arith);
 }
 
 -- ---- digits from the lowest up: those left and those that stand come to the whole
@@ -41,12 +49,13 @@ pub record Putting (base n w : ℕ) (out₀ : List ℕ) (at : ℕ) (out : List �
   pub size : length out ≡ length out₀
   pub front : take at out ≡ take at out₀
   pub whole : digits base n w ≡ digits base left rest ++ take (n - left) (drop (at + left) out)
+  pub behind : drop (at + n) out ≡ drop (at + n) out₀
   pub inside : left ≤ n
 
 pub putting-start : (base n w : ℕ) (out : List ℕ) (at : ℕ) → Putting base n w out at out n w
 putting-start base n w out at =
     let z : n - n ≡ 0 = omega arith in
-    record { size = refl; front = refl; whole = rw (z, append-nil); inside = omega arith }
+    record { size = refl; front = refl; whole = rw (z, append-nil); behind = refl; inside = omega arith }
 
 module _ (base n w : ℕ) (out₀ : List ℕ) (at : ℕ) (out : List ℕ) (left rest : ℕ) (g : Putting base n w out₀ at out left rest) (room : at + n ≤ length out₀) where
   pub putting-step : (d : ℕ) → d ≡ digit (rest % base) → 0 < left → Putting base n w out₀ at (set out (at + (left - 1)) d) (left - 1) (rest / base)
@@ -65,6 +74,7 @@ module _ (base n w : ℕ) (out₀ : List ℕ) (at : ℕ) (out : List ℕ) (left 
         size = length-set out j d ∙ g .size;
         front = take-set-le at out j d (omega arith) ∙ g .front;
         whole = g .whole ∙ ap (λ (x : ℕ). digits base x rest ++ tail) e ∙ append-assoc (digits base (left - 1) (rest / base)) (digit (rest % base) ∷ []) tail ∙ rw (s, ed);
+        behind = drop-set-lt (at + n) out j d (omega (arith, g .inside)) ∙ g .behind;
         inside = omega arith;
       }
 
@@ -76,6 +86,7 @@ module _ (base n w : ℕ) (out₀ : List ℕ) (at : ℕ) (out : List ℕ) (left 
         size = g .size;
         ends = ap (λ (x : ℕ). at + x) (sym (length-digits base n w));
         text = take-add at n out ∙ rw (g .front, ← e);
+        rest = g .behind;
       }
 
 -- ---- lines

@@ -15,7 +15,7 @@ use Rattle.sheet.proofs.play.Tie as tie
 
 abbrev Inv-loop : tie.InvT-loop
 Inv-loop slots₀ scalars₀ list₀ directory₀ cells₀ marks₀ order₀ layout table roots₀ input out₀ h₀ count₀ at₀ end₀ slots scalars list directory cells marks order roots out h count at end =
-    Playing (textFrom (sheetOf (layoutOf layout) (state h₀ slots₀ scalars₀ list₀ directory₀ cells₀) []) input) input (sheetOf (layoutOf layout) (state h slots scalars list directory cells) (take count roots)) at out end
+    Playing (textFrom (sheetOf (layoutOf layout) (state h₀ slots₀ scalars₀ list₀ directory₀ cells₀) []) input) input out₀ (sheetOf (layoutOf layout) (state h slots scalars list directory cells) (take count roots)) at out end
     × Ready (state h slots scalars list directory cells) marks order layout table
     × Rooted roots count
     × Kept slots₀ scalars₀ list₀ directory₀ cells₀ marks₀ order₀ roots₀ out₀ slots scalars list directory cells marks order roots out
