@@ -1,18 +1,18 @@
 -- Calls one after another: those made so far, and those left, come to the whole. Assumes nothing.
-use Prim.Native.Nat.{ℕ, zero, suc, _+_, _-_, _≤_, _<_}
+use Prim.Native.Nat.{ℕ, zero, suc, _+_, _-_, _*_, _≤_, _<_}
 use mathlib.Core.Path.{_≡_, refl, sym, ap, _∙_}
 use mathlib.Core.Logic.{_≢_}
-use mathlib.Core.Bool.{Bool, true, false, cond}
+use mathlib.Core.Bool.{Bool, true, false, cond, and-false}
 use mathlib.Core.List.{List, [], _∷_, _++_}
 use mathlib.Core.Option.{Option, none, some}
 use native.Mathlib.Decide.{ℕ-discrete}
 use native.Mathlib.Omega.{arith}
 use native.Mathlib.Numerals.{add-one}
-use lib.Dec.{eqb}
+use lib.Dec.{eqb, leb}
 use lib.ListN.{length, getD, take, drop, drop-of-length-le, length-append}
 use lib.Seq.{drop-cons, drop-length}
 use Rattle.layout.specs.Layout.{Layout}
-use Rattle.history.proofs.Facts.{eqb-no, eqb-yes}
+use Rattle.history.proofs.Facts.{eqb-no, eqb-yes, leb-no, leb-yes}
 use Rattle.history.proofs.Lift.{Seen, seen, seenAll}
 use Rattle.history.proofs.Whole.{demand-3}
 use Rattle.model.specs.Calls.{Call}
@@ -31,9 +31,10 @@ use Rattle.script.specs.Parse.{Called, calledBy}
 use Rattle.script.specs.Reads.{Reads, calledIs}
 use Rattle.runner.specs.declared.Progress.{Progress}
 use Rattle.runner.specs.declared.Ran.{Ran}
+use Rattle.runner.specs.declared.Scripted.the-variants.{Done, Short}
 use Rattle.commands.specs.Lists.{CommandedBy, known-command, unknown-command}
 use Rattle.runner.specs.Scripts.{Turned, callIn, callsFrom, callsOf, turnOf, turnedBy}
-use Rattle.runner.specs.Runs.{Onward, Runs, advancedOf, ranOf, refusals, refusedOne, turnAt}
+use Rattle.runner.specs.Runs.{Onward, Plays, Runs, advancedOf, callsMade, ranOf, refusals, refusedOne, roomFor, summaryIs, turnAt}
 
 -- ---- one command
 
@@ -256,6 +257,27 @@ module _ {l : Layout} {bytes places : ℕ} {script : List ℕ} {b s : State} {ca
 
   pub running-counted : length script ≤ at → calls ≡ length (callsOf bytes places script)
   running-counted h = omega (arith, g .counted, ap length (left-none h))
+
+-- ---- what is lent for a script
+
+module _ (l : Layout) (words bytes places : ℕ) (script : List ℕ) where
+  plays-short : (b : State) → roomFor (length script) words bytes ≡ false → Plays l words bytes places script b (summaryIs (b .heap) Short) b
+  unfolding summaryIs callsMade run seenAll refusals
+  plays-short b e = record { number = rw e; runs = rw e (runs-of refl refl); counted = rw e }
+
+  pub few-bytes : (b : State) → bytes < length script → Plays l words bytes places script b (summaryIs (b .heap) Short) b
+  unfolding roomFor
+  few-bytes b h = plays-short b (rw (leb-no (length script) bytes h, and-false (leb (length script) (8 * words))))
+
+  pub few-words : (b : State) → 8 * words < length script → Plays l words bytes places script b (summaryIs (b .heap) Short) b
+  unfolding roomFor
+  few-words b h = plays-short b (rw (leb-no (length script) (8 * words) h))
+
+  pub plays-ran : {b a : State} (h : Heap) (r : Ran) → length script ≤ 8 * words → length script ≤ bytes → Runs l (callsOf bytes places script) b (r .refused) a → r .calls ≡ length (callsOf bytes places script) → Plays l words bytes places script b (summaryIs h (Done r)) a
+  unfolding roomFor summaryIs callsMade
+  plays-ran h r w k x y =
+      let e : roomFor (length script) words bytes ≡ true = rw (leb-yes (length script) (8 * words) w, leb-yes (length script) bytes k) in
+      record { number = rw e; runs = rw e x; counted = rw e y }
 
 -- the lent buffers keep their lengths
 pub record Kept (slots₀ scalars₀ list₀ directory₀ cells₀ marks₀ order₀ words₀ bytes₀ places₀ slots₁ scalars₁ list₁ directory₁ cells₁ marks₁ order₁ words₁ bytes₁ places₁ : List ℕ) : Type 0 where

@@ -1,13 +1,13 @@
 // A script run over the heap: the calls of its commands, one after another.
 ghost use mathlib.Core.Path.{_≡_};
-ghost use mathlib.Core.List.{[]};
-ghost use Prim.Native.Nat.{_-_, _*_, _≤_, _<_};
+ghost use mathlib.Core.List.{[], _∷_};
+ghost use Prim.Native.Nat.{_+_, _-_, _*_, _≤_, _<_};
 ghost use lib.ListN.{length, replicate, take, drop};
 ghost use Rattle.layout.specs.Sections.{layoutOf};
 ghost use Rattle.heap.specs.State.{state};
 ghost use Rattle.heap.specs.Good.{Ready};
 ghost use Rattle.runner.specs.Scripts.{bytesFor, bytesLent, callIn, callsOf, numbered, placesLent, turnedBy};
-ghost use Rattle.runner.specs.Runs.{Onward, Runs, advancedOf, refusedOne, ranOf, turnAt};
+ghost use Rattle.runner.specs.Runs.{Onward, Plays, Runs, advancedOf, refusedOne, ranOf, summaryIs, turnAt};
 use commands::Operands;
 use commands::Performed;
 use heap::Heap;
@@ -17,6 +17,12 @@ pub struct Ran {
     pub heap: Heap,
     pub calls: u64,
     pub refused: u64,
+}
+
+// What a script came to; or the lent words or bytes are too few for it, and nothing was done.
+pub enum Scripted {
+    Done(Ran),
+    Short,
 }
 
 // One command: the heap's record after it, how many calls it made and how many were refused, one or
@@ -35,6 +41,13 @@ fn wide(x: u8) -> u64
 }
 
 // ---- memory lent
+
+// The least number of words that n bytes fit into.
+fn words_for(n: usize) -> usize
+    ensures { λ r. ⌜ (n ≤ 8 * r) × (8 * r < n + 8) ⌝ }
+{
+    n / 8 + (n % 8 + 7) / 8
+}
 
 fn bytes_lent(code: u64, o: Operands) -> u64
     ensures { λ r. ⌜ r ≡ bytesLent code o ⌝ }
@@ -286,9 +299,8 @@ fn turn(
     advanced(r, k.next, end)
 }
 
-// The calls of a script, up to the first command that makes none. Each command has its words in the
-// lent words, its bytes in the lent bytes, and a collection's list in the lent places.
-pub fn run(
+// The calls of a script, up to the first command that makes none.
+fn run_all(
     heap: Heap,
     slots: &mut [u64],
     scalars: &mut [u64],
@@ -343,4 +355,54 @@ pub fn run(
         calls,
         refused,
     }
+}
+
+// The calls of a script, up to the first command that makes none. Each command has its words in the
+// lent words, its bytes in the lent bytes, and a collection's list in the lent places. A script asks
+// for a lent word to each eight of its bytes, and a lent byte to each.
+pub fn run(
+    heap: Heap,
+    slots: &mut [u64],
+    scalars: &mut [u64],
+    list: &mut [u64],
+    directory: &mut [u64],
+    cells: &mut [u64],
+    marks: &mut [u8],
+    order: &mut [u32],
+    layout: &[u8],
+    table: &[u64],
+    script: &[u8],
+    words: &mut [u64],
+    bytes: &mut [u8],
+    places: &mut [u64],
+) -> Scripted
+    requires { ⌜ Ready (state heap (now slots) (now scalars) (now list) (now directory) (now cells)) (now marks) (now order) (now layout) (now table) ⌝ }
+    ensures { λ r. ⌜ Plays (layoutOf (now (layout .entry))) (length (now (words .entry))) (length (now (bytes .entry))) (length (now (places .entry))) (now (script .entry)) (state heap (now (slots .entry)) (now (scalars .entry)) (now (list .entry)) (now (directory .entry)) (now (cells .entry))) (summaryIs heap r) (state ((summaryIs heap r) .heap) (now (slots .exit)) (now (scalars .exit)) (now (list .exit)) (now (directory .exit)) (now (cells .exit))) ⌝ }
+    ensures { λ r. ⌜ Ready (state ((summaryIs heap r) .heap) (now (slots .exit)) (now (scalars .exit)) (now (list .exit)) (now (directory .exit)) (now (cells .exit))) (now (marks .exit)) (now (order .exit)) (now (layout .entry)) (now (table .entry)) ⌝ }
+    ensures { λ r. ⌜ ((summaryIs heap r) .refusal ≡ 8 → (now (slots .exit) ∷ now (scalars .exit) ∷ now (list .exit) ∷ now (directory .exit) ∷ now (cells .exit) ∷ now (marks .exit) ∷ now (order .exit) ∷ now (words .exit) ∷ now (bytes .exit) ∷ now (places .exit) ∷ []) ≡ (now (slots .entry) ∷ now (scalars .entry) ∷ now (list .entry) ∷ now (directory .entry) ∷ now (cells .entry) ∷ now (marks .entry) ∷ now (order .entry) ∷ now (words .entry) ∷ now (bytes .entry) ∷ now (places .entry) ∷ [])) ⌝ }
+{
+    let n = script.len();
+    if bytes.len() < n {
+        return Scripted::Short;
+    }
+    if words.len() < words_for(n) {
+        return Scripted::Short;
+    }
+    let r = run_all(
+        heap,
+        slots,
+        scalars,
+        list,
+        directory,
+        cells,
+        marks,
+        order,
+        layout,
+        table,
+        script,
+        words,
+        bytes,
+        places,
+    );
+    Scripted::Done(r)
 }
