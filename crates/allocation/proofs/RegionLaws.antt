@@ -38,7 +38,7 @@ use Rattle.heap.specs.Promise.{Performs}
 use Rattle.heap.specs.Placing.{newRaw, nextRegion, nextSlot}
 use Rattle.heap.proofs.KindLaws.{content-array, content-function, content-string, content-struct, room-array, room-none}
 use Rattle.heap.proofs.DoesLaws.{first-none, first-passes, first-refuses}
-use Rattle.allocation.specs.Making.{Finishes, MadeWords, Prepared, Scalarless, headerOf, made-in, turned-back}
+use Rattle.allocation.specs.Making.{Finishes, MadeWords, Prepared, Scalarless, headerOf, made-in, refused-as}
 use Rattle.allocation.proofs.MakeLaws.{Above, Makes, Means, above-4, makes, new-good, new-refused, ready-cells, refused-own, region-made, region-refused, weightOf, within-4}
 
 -- ---- bytes
@@ -66,7 +66,7 @@ above-written w = record { len = w .len; below = λ q l. w .outside q (inl l) }
 
 module _ {t m : State} {bytes n : ℕ} {d : Done} (p : Prepared t bytes n d m) where
   pub words-refused : {q : Refusal} (kind value mode : ℕ) (ws : List ℕ) {b : ℕ} → d ≡ Do.Refused q → bytes ≡ b → MadeWords t (headerOf kind value mode n n) b ws (Read.Refused q) m × Good m
-  words-refused {q} kind value mode ws f e = (rw (← e) (turned-back q (sym (p .judged) ∙ f) refl (p .refused q f)), p .good)
+  words-refused {q} kind value mode ws f e = (rw (← e) (refused-as q (sym (p .judged) ∙ f) refl (p .refused q f)), p .good)
 
   -- the words ws written above the top
   pub words-made : {h : Header} {b : ℕ} {ws c′ : List ℕ} {r : Reading} {a : State} (kind value mode : ℕ) → d ≡ Do.Accepted → Above (m .cells) c′ (m .heap .top) → nextRegion (withCells m c′) n ≡ ws →
@@ -93,7 +93,7 @@ module _ {t a : State} {r : Reading} {ws : List ℕ} {bytes : ℕ} (g : Good t) 
     (bytes-are : bytes ≡ saturated (weightOf t c s)) (cells-are : cellsOf c s ≡ n) (content : (x : Scalars) → contentOf (newRaw 65536 (headerOf kind value mode n n) ws) x ≡ c)
     (room : roomOf (newRaw 65536 (headerOf kind value mode n n) ws) ≡ s) where
   pub words-performs : MadeWords t (headerOf kind value mode n n) bytes ws r a → Performs k t (madeIs r) a
-  words-performs (turned-back q e f z) = rw (f, z) (new-refused g w bytes-are cells-are e)
+  words-performs (refused-as q e f z) = rw (f, z) (new-refused g w bytes-are cells-are e)
   words-performs (made-in m y e f z) =
       let x = moreOf m (nextSlot m) in
       region-made g w bytes-are (headerOf kind value mode n n) y (rw e (words-mean kind value mode n ws x lo hi no-map (content x) room)) (z, f)

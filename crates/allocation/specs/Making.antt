@@ -78,5 +78,5 @@ pub record Prepared (t : State) (bytes size : ℕ) (d : Done) (m : State) : Type
 
 -- an object of the cells ws: refused, and nothing changed; or placed in a state m that has them at the top
 pub data MadeWords (t : State) (h : Header) (bytes : ℕ) (ws : List ℕ) (r : Reading) (a : State) : Type 0 where
-  turned-back : (q : Refusal) → judgedIn t bytes (h .size) ≡ Do.Refused q → r ≡ Read.Refused q → a ≡ t → MadeWords t h bytes ws r a
+  refused-as : (q : Refusal) → judgedIn t bytes (h .size) ≡ Do.Refused q → r ≡ Read.Refused q → a ≡ t → MadeWords t h bytes ws r a
   made-in : (m : State) → Ready t m bytes (h .size) → nextRegion m (h .size) ≡ ws → r ≡ Read.Is (newWord m (h .kind)) → a ≡ placed m h bytes → MadeWords t h bytes ws r a

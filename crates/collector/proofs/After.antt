@@ -59,10 +59,10 @@ unfolding sumTo
 total-less zero f h e = omega arith
 total-less (suc n) f h e = let a = total-less n f h (λ j l. e j (omega arith)) in let b = e n (omega arith) in omega arith
 
-piled-same : (P Q : ℕ → Bool) (n : ℕ) (free : List ℕ) → ((j : ℕ) → j < n → P j ≡ Q j) → freeListAfter P n free ≡ freeListAfter Q n free
+listed-same : (P Q : ℕ → Bool) (n : ℕ) (free : List ℕ) → ((j : ℕ) → j < n → P j ≡ Q j) → freeListAfter P n free ≡ freeListAfter Q n free
 unfolding freeListAfter
-piled-same P Q zero free e = refl
-piled-same P Q (suc n) free e = rw (e n (omega arith), piled-same P Q n free (λ j l. e j (omega arith)))
+listed-same P Q zero free e = refl
+listed-same P Q (suc n) free e = rw (e n (omega arith), listed-same P Q n free (λ j l. e j (omega arith)))
 
 -- ---- a slot of the model
 
@@ -334,7 +334,7 @@ module _ (l : Layout) (t : State) (g : Good t) (roots : List ℕ) where
 
     pub free-after : freeList l′ (y .free) ≡ (rewritten table rule) .free
     unfolding modelOf rewritten
-    free-after = sw .list ∙ piled-same (returnedAt marks (t .slots)) (λ i. Slots.reusable rule i (slotOf t i)) n (freeList (t .list) (t .heap .free)) (λ i low. sym (returns-so i low))
+    free-after = sw .list ∙ listed-same (returnedAt marks (t .slots)) (λ i. Slots.reusable rule i (slotOf t i)) n (freeList (t .list) (t .heap .free)) (λ i low. sym (returns-so i low))
 
     pub weights-after : y .weight ≡ weightsKept (t .heap .weights) (rewritten table rule)
     unfolding modelOf rewritten weightsKept

@@ -24,7 +24,7 @@ use Rattle.heap.specs.declared.Opened.{Opened}
 use Rattle.heap.specs.declared.Opened.the-variants.{Ready, Refused}
 use Rattle.heap.specs.declared.Refusal.{Refusal}
 use Rattle.sheet.specs.Turns.{textFrom}
-use Rattle.sheet.specs.Promise.{Answers, Page, Prints, pageIs, pageOf, sheetOf, sheetRoom}
+use Rattle.sheet.specs.Promise.{Answers, Printout, Prints, printoutIs, printoutOf, sheetOf, sheetRoom}
 use Rattle.sheet.specs.declared.Printed.{Printed}
 use Rattle.sheet.specs.declared.Printed.the-variants.{Short, Text}
 
@@ -104,32 +104,32 @@ module _ (input : List ℕ) (n : ℕ) (e : n ≡ min (length input) 65536) where
   first-text = rw (first-bytes, take-take 65536 65536 input (omega arith))
 
   pub short-answers : {out : List ℕ} → length out < n * 62 → Answers input out Short out
-  unfolding pageIs pageOf
+  unfolding printoutIs printoutOf
   short-answers {out} h =
       let z : leb (sheetRoom input) (length out) ≡ false = leb-no (sheetRoom input) (length out) (omega arith) in
-      record { page = rw z; rest = refl }
+      record { printout = rw z; rest = refl }
 
   pub text-answers : {out out′ : List ℕ} (end : ℕ) → n * 62 ≤ length out → Prints (sheetText (take n input)) out out′ end → Answers input out (Text end) out′
-  unfolding pageIs pageOf
+  unfolding printoutIs printoutOf
   text-answers {out} {out′} end h p =
       let z : leb (sheetRoom input) (length out) ≡ true = leb-yes (sheetRoom input) (length out) (omega arith) in
       let t : take end out′ ≡ sheetText input = p .text ∙ first-text in
       let e : end ≡ length (sheetText input) = p .ends ∙ ap length t in
-      record { page = rw z (ap₂ (λ (x : ℕ) (y : List ℕ). record { refusal = 0; size = x; text = y }) e t); rest = p .rest }
+      record { printout = rw z (ap₂ (λ (x : ℕ) (y : List ℕ). record { refusal = 0; size = x; text = y }) e t); rest = p .rest }
 
 -- the text lies in the buffer
 pub text-within : {input out out′ : List ℕ} {r : Printed} (n : ℕ) → Answers input out r out′ → r ≡ Text n → n ≤ length out′
-unfolding pageIs pageOf
+unfolding printoutIs printoutOf
 text-within {input} {out} {out′} n a e = go (leb (sheetRoom input) (length out)) refl
   where
-    same : pageIs (Text n) out′ ≡ pageOf input (length out)
-    same = ap (λ (x : Printed). pageIs x out′) (sym e) ∙ a .page
+    same : printoutIs (Text n) out′ ≡ printoutOf input (length out)
+    same = ap (λ (x : Printed). printoutIs x out′) (sym e) ∙ a .printout
 
     go : (t : Bool) → leb (sheetRoom input) (length out) ≡ t → n ≤ length out′
     go true z =
-        let p : pageOf input (length out) ≡ record { refusal = 0; size = length (sheetText input); text = sheetText input } = rw z in
+        let p : printoutOf input (length out) ≡ record { refusal = 0; size = length (sheetText input); text = sheetText input } = rw z in
         let q = same ∙ p in
-        omega (arith, ap (λ (x : Page). x .size) q, ap (λ (x : Page). length (x .text)) q, length-take n out′)
+        omega (arith, ap (λ (x : Printout). x .size) q, ap (λ (x : Printout). length (x .text)) q, length-take n out′)
     go false z =
-        let p : pageOf input (length out) ≡ record { refusal = 8; size = 0; text = [] } = rw z in
-        omega (arith, ap (λ (x : Page). x .size) (same ∙ p))
+        let p : printoutOf input (length out) ≡ record { refusal = 8; size = 0; text = [] } = rw z in
+        omega (arith, ap (λ (x : Printout). x .size) (same ∙ p))

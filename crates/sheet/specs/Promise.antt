@@ -64,25 +64,25 @@ pub record Prints (t out out′ : List ℕ) (r : ℕ) : Type 0 where
   pub rest : drop r out′ ≡ drop r out
 
 -- what the program answers: document 01's number, how many bytes of text, and the text, in the first places of the buffer
-pub record Page : Type 0 where
+pub record Printout : Type 0 where
   pub refusal : ℕ
   pub size : ℕ
   pub text : List ℕ
 
 -- 8: a lent buffer that is too short
-unfoldable pub pageIs : Printed → List ℕ → Page
-pageIs (Text n) out = record { refusal = 0; size = n; text = take n out }
-pageIs Short out = record { refusal = 8; size = 0; text = [] }
+unfoldable pub printoutIs : Printed → List ℕ → Printout
+printoutIs (Text n) out = record { refusal = 0; size = n; text = take n out }
+printoutIs Short out = record { refusal = 8; size = 0; text = [] }
 
 -- 62 bytes for each byte of input that counts: a line takes at most 62 bytes, a command at least one
 abbrev pub sheetRoom : List ℕ → ℕ
 sheetRoom input = min (length input) 65536 * 62
 
--- the page for this input in a buffer of so many bytes
-unfoldable pub pageOf : List ℕ → ℕ → Page
-pageOf input n = cond (leb (sheetRoom input) n) (record { refusal = 0; size = length (sheetText input); text = sheetText input }) (record { refusal = 8; size = 0; text = [] })
+-- the text for this input in a buffer of so many bytes
+unfoldable pub printoutOf : List ℕ → ℕ → Printout
+printoutOf input n = cond (leb (sheetRoom input) n) (record { refusal = 0; size = length (sheetText input); text = sheetText input }) (record { refusal = 8; size = 0; text = [] })
 
--- what is answered and stands in the buffer is the program's page; what stands behind the text, of a refusal the whole buffer, stays
+-- what is answered and stands in the buffer is the program's text; what stands behind the text, of a refusal the whole buffer, stays
 pub record Answers (input out : List ℕ) (r : Printed) (out′ : List ℕ) : Type 0 where
-  pub page : pageIs r out′ ≡ pageOf input (length out)
-  pub rest : drop ((pageIs r out′) .size) out′ ≡ drop ((pageIs r out′) .size) out
+  pub printout : printoutIs r out′ ≡ printoutOf input (length out)
+  pub rest : drop ((printoutIs r out′) .size) out′ ≡ drop ((printoutIs r out′) .size) out
