@@ -61,7 +61,7 @@ module _ {o : Opening} {t : State} {x y : Beside} {before after : List ℕ} (p :
   abbrev opened : State
   opened = withHeap t (loaded after)
 
-  heapOf : Opened → Heap
+  abbrev heapOf : Opened → Heap
   heapOf (Ready h) = h
   heapOf (Refused q) = t .heap
 
@@ -69,11 +69,14 @@ module _ {o : Opening} {t : State} {x y : Beside} {before after : List ℕ} (p :
   opened-model = go (accepts o t x) refl
     where
       answer : (b : Bool) → accepts o t x ≡ b → Ready (loaded after) ≡ openedBy b (t .heap)
-      answer b e = (unfold openedIn in p .opens .answer) ∙ ap (λ (c : Bool). openedBy c (t .heap)) e
+      answer b e =
+          let h : Ready (loaded after) ≡ openedBy (accepts o t x) (t .heap) = (unfold openedIn in p .opens .answer) in
+          h ∙ ap (λ (c : Bool). openedBy c (t .heap)) e
 
       go : (b : Bool) → accepts o t x ≡ b → open-heap o ≡ some (modelOf (layoutOf (o .layout)) opened)
       go true e =
-          let h : loaded after ≡ t .heap = ap heapOf (unfold openedBy in answer true e) in
+          let q : Ready (loaded after) ≡ Ready (t .heap) = (unfold openedBy in answer true e) in
+          let h : loaded after ≡ t .heap = ap heapOf q in
           subst (λ (g : Heap). open-heap o ≡ some (modelOf (layoutOf (o .layout)) (withHeap t g))) (sym h) (p .opens .accepted e .model)
       go false e = let z : Ready (loaded after) ≡ Refused BadOpening = (unfold openedBy in answer false e) in let n : _≡_ {A = ℕ} 0 1 = cc in absurd (omega arith)
 
