@@ -151,6 +151,22 @@ fn print_answer(a: Perhaps) {
 
 // ---- calls
 
+fn two_frames() -> [Frame; 2] {
+    let first = Frame {
+        function: 7,
+        counter: 40,
+        base: 0,
+        closure: 0,
+    };
+    let second = Frame {
+        function: 9,
+        counter: 12,
+        base: 1,
+        closure: 281474976710656,
+    };
+    [first, second]
+}
+
 // A coroutine of two frames; a third is not there.
 fn coroutine(
     heap: Heap,
@@ -172,18 +188,7 @@ fn coroutine(
         signal: 0,
     };
     let registers = [0u64; 3];
-    let first = Frame {
-        function: 7,
-        counter: 40,
-        base: 0,
-        closure: 0,
-    };
-    let second = Frame {
-        function: 9,
-        counter: 12,
-        base: 1,
-        closure: 281474976710656,
-    };
+    let frames = two_frames();
     let m = made_from(
         heap,
         slots,
@@ -193,7 +198,7 @@ fn coroutine(
         cells,
         k,
         &registers,
-        [first, second],
+        frames,
     );
     let h = m.heap;
     let answer = m.answer;
@@ -345,6 +350,31 @@ fn map(
     }
 }
 
+fn both(
+    heap: Heap,
+    slots: &mut [u64],
+    scalars: &mut [u64],
+    list: &[u64],
+    directory: &mut [u64],
+    cells: &mut [u64],
+)
+    requires { ⌜ Good (state heap (now slots) (now scalars) (now list) (now directory) (now cells)) ⌝ }
+{
+    let h = coroutine(heap, slots, scalars, list, directory, cells);
+    map(h, slots, scalars, list, directory, cells);
+}
+
+// Document 01's weights for `callsheet`.
+fn weights() -> Weights {
+    Weights {
+        slot: 64,
+        entry: 40,
+        iterator: 80,
+        coroutine: 160,
+        frame: 32,
+    }
+}
+
 // A heap of four slots and 64 cells.
 fn main() {
     let mut slots = [0u64; 32];
@@ -356,17 +386,10 @@ fn main() {
     let mut order = [0u32; 8];
     let mut table = [0u64; 514];
     let layout = [0u8; 1];
-    let weights = Weights {
-        slot: 64,
-        entry: 40,
-        iterator: 80,
-        coroutine: 160,
-        frame: 32,
-    };
     match heap::open(
         4,
         4096,
-        weights,
+        weights(),
         &layout,
         &mut table,
         &mut marks,
@@ -378,23 +401,13 @@ fn main() {
         &cells,
     ) {
         Opened::Refused(q) => print_refusal(q),
-        Opened::Ready(h) => {
-            let a = coroutine(
-                h,
-                &mut slots,
-                &mut scalars,
-                &list,
-                &mut directory,
-                &mut cells,
-            );
-            map(
-                a,
-                &mut slots,
-                &mut scalars,
-                &list,
-                &mut directory,
-                &mut cells,
-            );
-        }
+        Opened::Ready(h) => both(
+            h,
+            &mut slots,
+            &mut scalars,
+            &list,
+            &mut directory,
+            &mut cells,
+        ),
     }
 }

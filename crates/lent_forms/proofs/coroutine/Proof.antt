@@ -4,6 +4,9 @@ use borrow.Author.Needs.{needs}
 use Rattle.lent_forms.proofs.coroutine.Statement.{statement}
 use Rattle.lent_forms.proofs.coroutine.Tie as tie
 
+two-frames-requires : tie.Need-two-frames-requires
+two-frames-requires c κs = search needs
+
 slice-aggregate-made-from : tie.Need-slice-aggregate-made-from
 slice-aggregate-made-from c = search needs
 
@@ -62,6 +65,7 @@ pub coroutine-spec : {M : Type 1} → statement M
 coroutine-spec =
     tie.close
     (tie.spec
+    two-frames-requires
     slice-aggregate-made-from
     made-from-requires
     enum-known-answer

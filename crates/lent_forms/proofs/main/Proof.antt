@@ -3,6 +3,9 @@ use borrow.Author.Needs.{needs}
 use Rattle.lent_forms.proofs.main.Statement.{statement}
 use Rattle.lent_forms.proofs.main.Tie as tie
 
+weights-requires : tie.Need-weights-requires
+weights-requires c κs = search needs
+
 slice-aggregate-open : tie.Need-slice-aggregate-open
 slice-aggregate-open c = search needs
 
@@ -42,44 +45,26 @@ print-refusal-requires c κs = search needs
 enum-known-h : tie.Need-enum-known-h
 enum-known-h c = search needs
 
-slice-aggregate-coroutine : tie.Need-slice-aggregate-coroutine
-slice-aggregate-coroutine c = search needs
+slice-aggregate-both : tie.Need-slice-aggregate-both
+slice-aggregate-both c = search needs
 
-slice-aggregate-coroutine-2 : tie.Need-slice-aggregate-coroutine-2
-slice-aggregate-coroutine-2 c = search needs
+slice-aggregate-both-2 : tie.Need-slice-aggregate-both-2
+slice-aggregate-both-2 c = search needs
 
-slice-aggregate-coroutine-3 : tie.Need-slice-aggregate-coroutine-3
-slice-aggregate-coroutine-3 c = search needs
+slice-aggregate-both-3 : tie.Need-slice-aggregate-both-3
+slice-aggregate-both-3 c = search needs
 
-slice-aggregate-coroutine-4 : tie.Need-slice-aggregate-coroutine-4
-slice-aggregate-coroutine-4 c = search needs
+slice-aggregate-both-4 : tie.Need-slice-aggregate-both-4
+slice-aggregate-both-4 c = search needs
 
-slice-aggregate-coroutine-5 : tie.Need-slice-aggregate-coroutine-5
-slice-aggregate-coroutine-5 c = search needs
+slice-aggregate-both-5 : tie.Need-slice-aggregate-both-5
+slice-aggregate-both-5 c = search needs
 
-coroutine-requires : tie.Need-coroutine-requires
-coroutine-requires c κs =
+both-requires : tie.Need-both-requires
+both-requires c κs =
     let at-h : tie.After-h = search in
     let at-open : tie.After-open = search in
     opened-good (at-open .«open» .ensures) (at-h .h .given .1)
-
-slice-aggregate-map : tie.Need-slice-aggregate-map
-slice-aggregate-map c = search needs
-
-slice-aggregate-map-2 : tie.Need-slice-aggregate-map-2
-slice-aggregate-map-2 c = search needs
-
-slice-aggregate-map-3 : tie.Need-slice-aggregate-map-3
-slice-aggregate-map-3 c = search needs
-
-slice-aggregate-map-4 : tie.Need-slice-aggregate-map-4
-slice-aggregate-map-4 c = search needs
-
-slice-aggregate-map-5 : tie.Need-slice-aggregate-map-5
-slice-aggregate-map-5 c = search needs
-
-map-requires : tie.Need-map-requires
-map-requires c κs = search needs
 
 returns : tie.Need-returns
 returns c = search needs
@@ -91,6 +76,7 @@ pub main-spec : {M : Type 1} → statement M
 main-spec =
     tie.close
     (tie.spec
+    weights-requires
     slice-aggregate-open
     slice-aggregate-open-2
     slice-aggregate-open-3
@@ -104,17 +90,11 @@ main-spec =
     enum-known-q
     print-refusal-requires
     enum-known-h
-    slice-aggregate-coroutine
-    slice-aggregate-coroutine-2
-    slice-aggregate-coroutine-3
-    slice-aggregate-coroutine-4
-    slice-aggregate-coroutine-5
-    coroutine-requires
-    slice-aggregate-map
-    slice-aggregate-map-2
-    slice-aggregate-map-3
-    slice-aggregate-map-4
-    slice-aggregate-map-5
-    map-requires
+    slice-aggregate-both
+    slice-aggregate-both-2
+    slice-aggregate-both-3
+    slice-aggregate-both-4
+    slice-aggregate-both-5
+    both-requires
     returns
     returns-2)
