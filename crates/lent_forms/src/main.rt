@@ -358,7 +358,7 @@ fn both(
     directory: &mut [u64],
     cells: &mut [u64],
 )
-    requires { ⌜ Good (state heap (now slots) (now scalars) (now list) (now directory) (now cells)) ⌝ }
+    requires { ⌜ Good (lent heap slots scalars list directory cells) ⌝ }
 {
     let h = coroutine(heap, slots, scalars, list, directory, cells);
     map(h, slots, scalars, list, directory, cells);
