@@ -7,7 +7,7 @@ ghost use Rattle.model.specs.Rules as Parts;
 ghost use Rattle.heap.specs.Answers.{readingIs, signedIs, testIs, doneIs};
 ghost use Rattle.access.specs.Answers.{lentReading, frameIs};
 ghost use Rattle.access.specs.Objects.{ReadsHeader, ReadsScalar, ReadsWord, StoresScalar, StoresValue, StoresWord, WordsFit, frameOf};
-ghost use Rattle.heap.specs.State.{state};
+ghost use Rattle.heap.specs.State.{after, before, lent};
 ghost use Rattle.heap.specs.Good.{Good};
 ghost use Rattle.heap.specs.Promise.{Performs, Reads};
 use heap::Done;
@@ -203,8 +203,8 @@ pub fn read_box(
     cells: &[u64],
     w: u64,
 ) -> Reading
-    requires { ⌜ Good (state heap (now slots) (now scalars) (now list) (now directory) (now cells)) ⌝ }
-    ensures { λ r. ⌜ Reads (Calls.read-box w) (state heap (now (slots .entry)) (now (scalars .entry)) (now (list .entry)) (now (directory .entry)) (now (cells .entry))) (readingIs r) ⌝ }
+    requires { ⌜ Good (lent heap slots scalars list directory cells) ⌝ }
+    ensures { λ r. ⌜ Reads (Calls.read-box w) (before heap slots scalars list directory cells) (readingIs r) ⌝ }
 {
     read_value(slots, heap.fresh, w, BOX)
 }
@@ -219,8 +219,8 @@ pub fn read_cell(
     cells: &[u64],
     w: u64,
 ) -> Reading
-    requires { ⌜ Good (state heap (now slots) (now scalars) (now list) (now directory) (now cells)) ⌝ }
-    ensures { λ r. ⌜ Reads (Calls.read-cell w) (state heap (now (slots .entry)) (now (scalars .entry)) (now (list .entry)) (now (directory .entry)) (now (cells .entry))) (readingIs r) ⌝ }
+    requires { ⌜ Good (lent heap slots scalars list directory cells) ⌝ }
+    ensures { λ r. ⌜ Reads (Calls.read-cell w) (before heap slots scalars list directory cells) (readingIs r) ⌝ }
 {
     read_value(slots, heap.fresh, w, CELL)
 }
@@ -234,8 +234,8 @@ pub fn cell_type(
     cells: &[u64],
     w: u64,
 ) -> Reading
-    requires { ⌜ Good (state heap (now slots) (now scalars) (now list) (now directory) (now cells)) ⌝ }
-    ensures { λ r. ⌜ Reads (Calls.cell-type w) (state heap (now (slots .entry)) (now (scalars .entry)) (now (list .entry)) (now (directory .entry)) (now (cells .entry))) (readingIs r) ⌝ }
+    requires { ⌜ Good (lent heap slots scalars list directory cells) ⌝ }
+    ensures { λ r. ⌜ Reads (Calls.cell-type w) (before heap slots scalars list directory cells) (readingIs r) ⌝ }
 {
     read_mode(slots, heap.fresh, w, CELL)
 }
@@ -250,8 +250,8 @@ pub fn error_kind(
     cells: &[u64],
     w: u64,
 ) -> Reading
-    requires { ⌜ Good (state heap (now slots) (now scalars) (now list) (now directory) (now cells)) ⌝ }
-    ensures { λ r. ⌜ Reads (Calls.error-kind w) (state heap (now (slots .entry)) (now (scalars .entry)) (now (list .entry)) (now (directory .entry)) (now (cells .entry))) (readingIs r) ⌝ }
+    requires { ⌜ Good (lent heap slots scalars list directory cells) ⌝ }
+    ensures { λ r. ⌜ Reads (Calls.error-kind w) (before heap slots scalars list directory cells) (readingIs r) ⌝ }
 {
     read_mode(slots, heap.fresh, w, ERROR)
 }
@@ -265,8 +265,8 @@ pub fn error_word(
     cells: &[u64],
     w: u64,
 ) -> Reading
-    requires { ⌜ Good (state heap (now slots) (now scalars) (now list) (now directory) (now cells)) ⌝ }
-    ensures { λ r. ⌜ Reads (Calls.error-word w) (state heap (now (slots .entry)) (now (scalars .entry)) (now (list .entry)) (now (directory .entry)) (now (cells .entry))) (readingIs r) ⌝ }
+    requires { ⌜ Good (lent heap slots scalars list directory cells) ⌝ }
+    ensures { λ r. ⌜ Reads (Calls.error-word w) (before heap slots scalars list directory cells) (readingIs r) ⌝ }
 {
     read_value(slots, heap.fresh, w, ERROR)
 }
@@ -281,8 +281,8 @@ pub fn read_integer(
     cells: &[u64],
     w: u64,
 ) -> Signed
-    requires { ⌜ Good (state heap (now slots) (now scalars) (now list) (now directory) (now cells)) ⌝ }
-    ensures { λ r. ⌜ Reads (Calls.read-integer w) (state heap (now (slots .entry)) (now (scalars .entry)) (now (list .entry)) (now (directory .entry)) (now (cells .entry))) (signedIs r) ⌝ }
+    requires { ⌜ Good (lent heap slots scalars list directory cells) ⌝ }
+    ensures { λ r. ⌜ Reads (Calls.read-integer w) (before heap slots scalars list directory cells) (signedIs r) ⌝ }
 {
     match lookup::locate(slots, heap.fresh, w, INTEGER) {
         Located::Refused(q) => Signed::Refused(q),
@@ -302,8 +302,8 @@ pub fn string_length(
     cells: &[u64],
     w: u64,
 ) -> Reading
-    requires { ⌜ Good (state heap (now slots) (now scalars) (now list) (now directory) (now cells)) ⌝ }
-    ensures { λ r. ⌜ Reads (Calls.string-length w) (state heap (now (slots .entry)) (now (scalars .entry)) (now (list .entry)) (now (directory .entry)) (now (cells .entry))) (readingIs r) ⌝ }
+    requires { ⌜ Good (lent heap slots scalars list directory cells) ⌝ }
+    ensures { λ r. ⌜ Reads (Calls.string-length w) (before heap slots scalars list directory cells) (readingIs r) ⌝ }
 {
     read_len(slots, heap.fresh, w, STRING)
 }
@@ -319,8 +319,8 @@ pub fn read_string(
     w: u64,
     buffer: &mut [u8],
 ) -> Reading
-    requires { ⌜ Good (state heap (now slots) (now scalars) (now list) (now directory) (now cells)) ⌝ }
-    ensures { λ r. ⌜ Reads (Calls.read-string w (now (buffer .entry))) (state heap (now (slots .entry)) (now (scalars .entry)) (now (list .entry)) (now (directory .entry)) (now (cells .entry))) (lentReading r (now (buffer .exit))) ⌝ }
+    requires { ⌜ Good (lent heap slots scalars list directory cells) ⌝ }
+    ensures { λ r. ⌜ Reads (Calls.read-string w (now (buffer .entry))) (before heap slots scalars list directory cells) (lentReading r (now (buffer .exit))) ⌝ }
 {
     match lookup::locate(slots, heap.fresh, w, STRING) {
         Located::Refused(q) => Reading::Refused(q),
@@ -345,8 +345,8 @@ pub fn array_type(
     cells: &[u64],
     w: u64,
 ) -> Reading
-    requires { ⌜ Good (state heap (now slots) (now scalars) (now list) (now directory) (now cells)) ⌝ }
-    ensures { λ r. ⌜ Reads (Calls.array-type w) (state heap (now (slots .entry)) (now (scalars .entry)) (now (list .entry)) (now (directory .entry)) (now (cells .entry))) (readingIs r) ⌝ }
+    requires { ⌜ Good (lent heap slots scalars list directory cells) ⌝ }
+    ensures { λ r. ⌜ Reads (Calls.array-type w) (before heap slots scalars list directory cells) (readingIs r) ⌝ }
 {
     read_mode(slots, heap.fresh, w, ARRAY)
 }
@@ -360,8 +360,8 @@ pub fn array_length(
     cells: &[u64],
     w: u64,
 ) -> Reading
-    requires { ⌜ Good (state heap (now slots) (now scalars) (now list) (now directory) (now cells)) ⌝ }
-    ensures { λ r. ⌜ Reads (Calls.array-length w) (state heap (now (slots .entry)) (now (scalars .entry)) (now (list .entry)) (now (directory .entry)) (now (cells .entry))) (readingIs r) ⌝ }
+    requires { ⌜ Good (lent heap slots scalars list directory cells) ⌝ }
+    ensures { λ r. ⌜ Reads (Calls.array-length w) (before heap slots scalars list directory cells) (readingIs r) ⌝ }
 {
     read_len(slots, heap.fresh, w, ARRAY)
 }
@@ -375,8 +375,8 @@ pub fn array_capacity(
     cells: &[u64],
     w: u64,
 ) -> Reading
-    requires { ⌜ Good (state heap (now slots) (now scalars) (now list) (now directory) (now cells)) ⌝ }
-    ensures { λ r. ⌜ Reads (Calls.array-capacity w) (state heap (now (slots .entry)) (now (scalars .entry)) (now (list .entry)) (now (directory .entry)) (now (cells .entry))) (readingIs r) ⌝ }
+    requires { ⌜ Good (lent heap slots scalars list directory cells) ⌝ }
+    ensures { λ r. ⌜ Reads (Calls.array-capacity w) (before heap slots scalars list directory cells) (readingIs r) ⌝ }
 {
     read_size(slots, heap.fresh, w, ARRAY)
 }
@@ -392,8 +392,8 @@ pub fn read_item(
     w: u64,
     i: u64,
 ) -> Reading
-    requires { ⌜ Good (state heap (now slots) (now scalars) (now list) (now directory) (now cells)) ⌝ }
-    ensures { λ r. ⌜ Reads (Calls.read-item w i) (state heap (now (slots .entry)) (now (scalars .entry)) (now (list .entry)) (now (directory .entry)) (now (cells .entry))) (readingIs r) ⌝ }
+    requires { ⌜ Good (lent heap slots scalars list directory cells) ⌝ }
+    ensures { λ r. ⌜ Reads (Calls.read-item w i) (before heap slots scalars list directory cells) (readingIs r) ⌝ }
 {
     read_word(slots, cells, heap.fresh, w, ARRAY, i)
 }
@@ -408,8 +408,8 @@ pub fn struct_number(
     cells: &[u64],
     w: u64,
 ) -> Reading
-    requires { ⌜ Good (state heap (now slots) (now scalars) (now list) (now directory) (now cells)) ⌝ }
-    ensures { λ r. ⌜ Reads (Calls.struct-number w) (state heap (now (slots .entry)) (now (scalars .entry)) (now (list .entry)) (now (directory .entry)) (now (cells .entry))) (readingIs r) ⌝ }
+    requires { ⌜ Good (lent heap slots scalars list directory cells) ⌝ }
+    ensures { λ r. ⌜ Reads (Calls.struct-number w) (before heap slots scalars list directory cells) (readingIs r) ⌝ }
 {
     read_value(slots, heap.fresh, w, STRUCT)
 }
@@ -423,8 +423,8 @@ pub fn field_count(
     cells: &[u64],
     w: u64,
 ) -> Reading
-    requires { ⌜ Good (state heap (now slots) (now scalars) (now list) (now directory) (now cells)) ⌝ }
-    ensures { λ r. ⌜ Reads (Calls.field-count w) (state heap (now (slots .entry)) (now (scalars .entry)) (now (list .entry)) (now (directory .entry)) (now (cells .entry))) (readingIs r) ⌝ }
+    requires { ⌜ Good (lent heap slots scalars list directory cells) ⌝ }
+    ensures { λ r. ⌜ Reads (Calls.field-count w) (before heap slots scalars list directory cells) (readingIs r) ⌝ }
 {
     read_len(slots, heap.fresh, w, STRUCT)
 }
@@ -439,8 +439,8 @@ pub fn read_field(
     w: u64,
     i: u64,
 ) -> Reading
-    requires { ⌜ Good (state heap (now slots) (now scalars) (now list) (now directory) (now cells)) ⌝ }
-    ensures { λ r. ⌜ Reads (Calls.read-field w i) (state heap (now (slots .entry)) (now (scalars .entry)) (now (list .entry)) (now (directory .entry)) (now (cells .entry))) (readingIs r) ⌝ }
+    requires { ⌜ Good (lent heap slots scalars list directory cells) ⌝ }
+    ensures { λ r. ⌜ Reads (Calls.read-field w i) (before heap slots scalars list directory cells) (readingIs r) ⌝ }
 {
     read_word(slots, cells, heap.fresh, w, STRUCT, i)
 }
@@ -455,8 +455,8 @@ pub fn is_import(
     cells: &[u64],
     w: u64,
 ) -> Test
-    requires { ⌜ Good (state heap (now slots) (now scalars) (now list) (now directory) (now cells)) ⌝ }
-    ensures { λ r. ⌜ Reads (Calls.is-import w) (state heap (now (slots .entry)) (now (scalars .entry)) (now (list .entry)) (now (directory .entry)) (now (cells .entry))) (testIs r) ⌝ }
+    requires { ⌜ Good (lent heap slots scalars list directory cells) ⌝ }
+    ensures { λ r. ⌜ Reads (Calls.is-import w) (before heap slots scalars list directory cells) (testIs r) ⌝ }
 {
     match lookup::locate(slots, heap.fresh, w, FUNCTION) {
         Located::Refused(q) => Test::Refused(q),
@@ -476,8 +476,8 @@ pub fn function_number(
     cells: &[u64],
     w: u64,
 ) -> Reading
-    requires { ⌜ Good (state heap (now slots) (now scalars) (now list) (now directory) (now cells)) ⌝ }
-    ensures { λ r. ⌜ Reads (Calls.function-number w) (state heap (now (slots .entry)) (now (scalars .entry)) (now (list .entry)) (now (directory .entry)) (now (cells .entry))) (readingIs r) ⌝ }
+    requires { ⌜ Good (lent heap slots scalars list directory cells) ⌝ }
+    ensures { λ r. ⌜ Reads (Calls.function-number w) (before heap slots scalars list directory cells) (readingIs r) ⌝ }
 {
     read_value(slots, heap.fresh, w, FUNCTION)
 }
@@ -491,8 +491,8 @@ pub fn capture_count(
     cells: &[u64],
     w: u64,
 ) -> Reading
-    requires { ⌜ Good (state heap (now slots) (now scalars) (now list) (now directory) (now cells)) ⌝ }
-    ensures { λ r. ⌜ Reads (Calls.capture-count w) (state heap (now (slots .entry)) (now (scalars .entry)) (now (list .entry)) (now (directory .entry)) (now (cells .entry))) (readingIs r) ⌝ }
+    requires { ⌜ Good (lent heap slots scalars list directory cells) ⌝ }
+    ensures { λ r. ⌜ Reads (Calls.capture-count w) (before heap slots scalars list directory cells) (readingIs r) ⌝ }
 {
     read_len(slots, heap.fresh, w, FUNCTION)
 }
@@ -507,8 +507,8 @@ pub fn read_capture(
     w: u64,
     i: u64,
 ) -> Reading
-    requires { ⌜ Good (state heap (now slots) (now scalars) (now list) (now directory) (now cells)) ⌝ }
-    ensures { λ r. ⌜ Reads (Calls.read-capture w i) (state heap (now (slots .entry)) (now (scalars .entry)) (now (list .entry)) (now (directory .entry)) (now (cells .entry))) (readingIs r) ⌝ }
+    requires { ⌜ Good (lent heap slots scalars list directory cells) ⌝ }
+    ensures { λ r. ⌜ Reads (Calls.read-capture w i) (before heap slots scalars list directory cells) (readingIs r) ⌝ }
 {
     read_word(slots, cells, heap.fresh, w, FUNCTION, i)
 }
@@ -523,8 +523,8 @@ pub fn read_state(
     cells: &[u64],
     w: u64,
 ) -> Reading
-    requires { ⌜ Good (state heap (now slots) (now scalars) (now list) (now directory) (now cells)) ⌝ }
-    ensures { λ r. ⌜ Reads (Calls.read-state w) (state heap (now (slots .entry)) (now (scalars .entry)) (now (list .entry)) (now (directory .entry)) (now (cells .entry))) (readingIs r) ⌝ }
+    requires { ⌜ Good (lent heap slots scalars list directory cells) ⌝ }
+    ensures { λ r. ⌜ Reads (Calls.read-state w) (before heap slots scalars list directory cells) (readingIs r) ⌝ }
 {
     read_mode(slots, heap.fresh, w, COROUTINE)
 }
@@ -538,8 +538,8 @@ pub fn read_payload(
     cells: &[u64],
     w: u64,
 ) -> Reading
-    requires { ⌜ Good (state heap (now slots) (now scalars) (now list) (now directory) (now cells)) ⌝ }
-    ensures { λ r. ⌜ Reads (Calls.read-part w Parts.payload) (state heap (now (slots .entry)) (now (scalars .entry)) (now (list .entry)) (now (directory .entry)) (now (cells .entry))) (readingIs r) ⌝ }
+    requires { ⌜ Good (lent heap slots scalars list directory cells) ⌝ }
+    ensures { λ r. ⌜ Reads (Calls.read-part w Parts.payload) (before heap slots scalars list directory cells) (readingIs r) ⌝ }
 {
     read_scalar(slots, scalars, heap.fresh, w, PAYLOAD)
 }
@@ -553,8 +553,8 @@ pub fn read_key(
     cells: &[u64],
     w: u64,
 ) -> Reading
-    requires { ⌜ Good (state heap (now slots) (now scalars) (now list) (now directory) (now cells)) ⌝ }
-    ensures { λ r. ⌜ Reads (Calls.read-part w Parts.key) (state heap (now (slots .entry)) (now (scalars .entry)) (now (list .entry)) (now (directory .entry)) (now (cells .entry))) (readingIs r) ⌝ }
+    requires { ⌜ Good (lent heap slots scalars list directory cells) ⌝ }
+    ensures { λ r. ⌜ Reads (Calls.read-part w Parts.key) (before heap slots scalars list directory cells) (readingIs r) ⌝ }
 {
     read_scalar(slots, scalars, heap.fresh, w, KEY)
 }
@@ -568,8 +568,8 @@ pub fn read_result(
     cells: &[u64],
     w: u64,
 ) -> Reading
-    requires { ⌜ Good (state heap (now slots) (now scalars) (now list) (now directory) (now cells)) ⌝ }
-    ensures { λ r. ⌜ Reads (Calls.read-part w Parts.result) (state heap (now (slots .entry)) (now (scalars .entry)) (now (list .entry)) (now (directory .entry)) (now (cells .entry))) (readingIs r) ⌝ }
+    requires { ⌜ Good (lent heap slots scalars list directory cells) ⌝ }
+    ensures { λ r. ⌜ Reads (Calls.read-part w Parts.result) (before heap slots scalars list directory cells) (readingIs r) ⌝ }
 {
     read_scalar(slots, scalars, heap.fresh, w, RESULT)
 }
@@ -583,8 +583,8 @@ pub fn read_signal(
     cells: &[u64],
     w: u64,
 ) -> Reading
-    requires { ⌜ Good (state heap (now slots) (now scalars) (now list) (now directory) (now cells)) ⌝ }
-    ensures { λ r. ⌜ Reads (Calls.read-part w Parts.signal) (state heap (now (slots .entry)) (now (scalars .entry)) (now (list .entry)) (now (directory .entry)) (now (cells .entry))) (readingIs r) ⌝ }
+    requires { ⌜ Good (lent heap slots scalars list directory cells) ⌝ }
+    ensures { λ r. ⌜ Reads (Calls.read-part w Parts.signal) (before heap slots scalars list directory cells) (readingIs r) ⌝ }
 {
     read_scalar(slots, scalars, heap.fresh, w, SIGNAL)
 }
@@ -598,8 +598,8 @@ pub fn coroutine_sequence(
     cells: &[u64],
     w: u64,
 ) -> Reading
-    requires { ⌜ Good (state heap (now slots) (now scalars) (now list) (now directory) (now cells)) ⌝ }
-    ensures { λ r. ⌜ Reads (Calls.coroutine-sequence w) (state heap (now (slots .entry)) (now (scalars .entry)) (now (list .entry)) (now (directory .entry)) (now (cells .entry))) (readingIs r) ⌝ }
+    requires { ⌜ Good (lent heap slots scalars list directory cells) ⌝ }
+    ensures { λ r. ⌜ Reads (Calls.coroutine-sequence w) (before heap slots scalars list directory cells) (readingIs r) ⌝ }
 {
     read_value(slots, heap.fresh, w, COROUTINE)
 }
@@ -613,8 +613,8 @@ pub fn coroutine_finalized(
     cells: &[u64],
     w: u64,
 ) -> Test
-    requires { ⌜ Good (state heap (now slots) (now scalars) (now list) (now directory) (now cells)) ⌝ }
-    ensures { λ r. ⌜ Reads (Calls.coroutine-finalized w) (state heap (now (slots .entry)) (now (scalars .entry)) (now (list .entry)) (now (directory .entry)) (now (cells .entry))) (testIs r) ⌝ }
+    requires { ⌜ Good (lent heap slots scalars list directory cells) ⌝ }
+    ensures { λ r. ⌜ Reads (Calls.coroutine-finalized w) (before heap slots scalars list directory cells) (testIs r) ⌝ }
 {
     match lookup::locate(slots, heap.fresh, w, COROUTINE) {
         Located::Refused(q) => Test::Refused(q),
@@ -635,8 +635,8 @@ pub fn register_count(
     cells: &[u64],
     w: u64,
 ) -> Reading
-    requires { ⌜ Good (state heap (now slots) (now scalars) (now list) (now directory) (now cells)) ⌝ }
-    ensures { λ r. ⌜ Reads (Calls.register-count w) (state heap (now (slots .entry)) (now (scalars .entry)) (now (list .entry)) (now (directory .entry)) (now (cells .entry))) (readingIs r) ⌝ }
+    requires { ⌜ Good (lent heap slots scalars list directory cells) ⌝ }
+    ensures { λ r. ⌜ Reads (Calls.register-count w) (before heap slots scalars list directory cells) (readingIs r) ⌝ }
 {
     read_len(slots, heap.fresh, w, COROUTINE)
 }
@@ -650,8 +650,8 @@ pub fn frame_count(
     cells: &[u64],
     w: u64,
 ) -> Reading
-    requires { ⌜ Good (state heap (now slots) (now scalars) (now list) (now directory) (now cells)) ⌝ }
-    ensures { λ r. ⌜ Reads (Calls.frame-count w) (state heap (now (slots .entry)) (now (scalars .entry)) (now (list .entry)) (now (directory .entry)) (now (cells .entry))) (readingIs r) ⌝ }
+    requires { ⌜ Good (lent heap slots scalars list directory cells) ⌝ }
+    ensures { λ r. ⌜ Reads (Calls.frame-count w) (before heap slots scalars list directory cells) (readingIs r) ⌝ }
 {
     read_scalar(slots, scalars, heap.fresh, w, FRAMES)
 }
@@ -666,8 +666,8 @@ pub fn read_frame(
     w: u64,
     i: u64,
 ) -> FrameRead
-    requires { ⌜ Good (state heap (now slots) (now scalars) (now list) (now directory) (now cells)) ⌝ }
-    ensures { λ r. ⌜ Reads (Calls.read-frame w i) (state heap (now (slots .entry)) (now (scalars .entry)) (now (list .entry)) (now (directory .entry)) (now (cells .entry))) (frameIs r) ⌝ }
+    requires { ⌜ Good (lent heap slots scalars list directory cells) ⌝ }
+    ensures { λ r. ⌜ Reads (Calls.read-frame w i) (before heap slots scalars list directory cells) (frameIs r) ⌝ }
 {
     match lookup::locate(slots, heap.fresh, w, COROUTINE) {
         Located::Refused(q) => FrameRead::Refused(q),
@@ -705,8 +705,8 @@ pub fn read_register(
     w: u64,
     i: u64,
 ) -> Reading
-    requires { ⌜ Good (state heap (now slots) (now scalars) (now list) (now directory) (now cells)) ⌝ }
-    ensures { λ r. ⌜ Reads (Calls.read-register w i) (state heap (now (slots .entry)) (now (scalars .entry)) (now (list .entry)) (now (directory .entry)) (now (cells .entry))) (readingIs r) ⌝ }
+    requires { ⌜ Good (lent heap slots scalars list directory cells) ⌝ }
+    ensures { λ r. ⌜ Reads (Calls.read-register w i) (before heap slots scalars list directory cells) (readingIs r) ⌝ }
 {
     read_word(slots, cells, heap.fresh, w, COROUTINE, i)
 }
@@ -722,8 +722,8 @@ pub fn store_cell(
     w: u64,
     v: u64,
 ) -> Done
-    requires { ⌜ Good (state heap (now slots) (now scalars) (now list) (now directory) (now cells)) ⌝ }
-    ensures { λ r. ⌜ Performs (Calls.store-cell w v) (state heap (now (slots .entry)) (now (scalars .entry)) (now (list .entry)) (now (directory .entry)) (now (cells .entry))) (doneIs r) (state heap (now (slots .exit)) (now (scalars .entry)) (now (list .entry)) (now (directory .entry)) (now (cells .entry))) ⌝ }
+    requires { ⌜ Good (lent heap slots scalars list directory cells) ⌝ }
+    ensures { λ r. ⌜ Performs (Calls.store-cell w v) (before heap slots scalars list directory cells) (doneIs r) (after heap slots scalars list directory cells) ⌝ }
 {
     store_value(slots, heap.fresh, w, CELL, v)
 }
@@ -738,8 +738,8 @@ pub fn store_box(
     w: u64,
     v: u64,
 ) -> Done
-    requires { ⌜ Good (state heap (now slots) (now scalars) (now list) (now directory) (now cells)) ⌝ }
-    ensures { λ r. ⌜ Performs (Calls.store-box w v) (state heap (now (slots .entry)) (now (scalars .entry)) (now (list .entry)) (now (directory .entry)) (now (cells .entry))) (doneIs r) (state heap (now (slots .exit)) (now (scalars .entry)) (now (list .entry)) (now (directory .entry)) (now (cells .entry))) ⌝ }
+    requires { ⌜ Good (lent heap slots scalars list directory cells) ⌝ }
+    ensures { λ r. ⌜ Performs (Calls.store-box w v) (before heap slots scalars list directory cells) (doneIs r) (after heap slots scalars list directory cells) ⌝ }
 {
     store_value(slots, heap.fresh, w, BOX, v)
 }
@@ -756,8 +756,8 @@ pub fn store_field(
     i: u64,
     v: u64,
 ) -> Done
-    requires { ⌜ Good (state heap (now slots) (now scalars) (now list) (now directory) (now cells)) ⌝ }
-    ensures { λ r. ⌜ Performs (Calls.store-field w i v) (state heap (now (slots .entry)) (now (scalars .entry)) (now (list .entry)) (now (directory .entry)) (now (cells .entry))) (doneIs r) (state heap (now (slots .entry)) (now (scalars .entry)) (now (list .entry)) (now (directory .entry)) (now (cells .exit))) ⌝ }
+    requires { ⌜ Good (lent heap slots scalars list directory cells) ⌝ }
+    ensures { λ r. ⌜ Performs (Calls.store-field w i v) (before heap slots scalars list directory cells) (doneIs r) (after heap slots scalars list directory cells) ⌝ }
 {
     store_word(slots, cells, heap.fresh, w, STRUCT, i, v)
 }
@@ -773,8 +773,8 @@ pub fn store_capture(
     i: u64,
     v: u64,
 ) -> Done
-    requires { ⌜ Good (state heap (now slots) (now scalars) (now list) (now directory) (now cells)) ⌝ }
-    ensures { λ r. ⌜ Performs (Calls.store-capture w i v) (state heap (now (slots .entry)) (now (scalars .entry)) (now (list .entry)) (now (directory .entry)) (now (cells .entry))) (doneIs r) (state heap (now (slots .entry)) (now (scalars .entry)) (now (list .entry)) (now (directory .entry)) (now (cells .exit))) ⌝ }
+    requires { ⌜ Good (lent heap slots scalars list directory cells) ⌝ }
+    ensures { λ r. ⌜ Performs (Calls.store-capture w i v) (before heap slots scalars list directory cells) (doneIs r) (after heap slots scalars list directory cells) ⌝ }
 {
     store_word(slots, cells, heap.fresh, w, FUNCTION, i, v)
 }
@@ -790,8 +790,8 @@ pub fn store_register(
     i: u64,
     v: u64,
 ) -> Done
-    requires { ⌜ Good (state heap (now slots) (now scalars) (now list) (now directory) (now cells)) ⌝ }
-    ensures { λ r. ⌜ Performs (Calls.store-register w i v) (state heap (now (slots .entry)) (now (scalars .entry)) (now (list .entry)) (now (directory .entry)) (now (cells .entry))) (doneIs r) (state heap (now (slots .entry)) (now (scalars .entry)) (now (list .entry)) (now (directory .entry)) (now (cells .exit))) ⌝ }
+    requires { ⌜ Good (lent heap slots scalars list directory cells) ⌝ }
+    ensures { λ r. ⌜ Performs (Calls.store-register w i v) (before heap slots scalars list directory cells) (doneIs r) (after heap slots scalars list directory cells) ⌝ }
 {
     store_word(slots, cells, heap.fresh, w, COROUTINE, i, v)
 }
@@ -807,8 +807,8 @@ pub fn store_payload(
     w: u64,
     v: u64,
 ) -> Done
-    requires { ⌜ Good (state heap (now slots) (now scalars) (now list) (now directory) (now cells)) ⌝ }
-    ensures { λ r. ⌜ Performs (Calls.store-part w Parts.payload v) (state heap (now (slots .entry)) (now (scalars .entry)) (now (list .entry)) (now (directory .entry)) (now (cells .entry))) (doneIs r) (state heap (now (slots .entry)) (now (scalars .exit)) (now (list .entry)) (now (directory .entry)) (now (cells .entry))) ⌝ }
+    requires { ⌜ Good (lent heap slots scalars list directory cells) ⌝ }
+    ensures { λ r. ⌜ Performs (Calls.store-part w Parts.payload v) (before heap slots scalars list directory cells) (doneIs r) (after heap slots scalars list directory cells) ⌝ }
 {
     store_scalar(slots, scalars, heap.fresh, w, PAYLOAD, v)
 }
@@ -823,8 +823,8 @@ pub fn store_key(
     w: u64,
     v: u64,
 ) -> Done
-    requires { ⌜ Good (state heap (now slots) (now scalars) (now list) (now directory) (now cells)) ⌝ }
-    ensures { λ r. ⌜ Performs (Calls.store-part w Parts.key v) (state heap (now (slots .entry)) (now (scalars .entry)) (now (list .entry)) (now (directory .entry)) (now (cells .entry))) (doneIs r) (state heap (now (slots .entry)) (now (scalars .exit)) (now (list .entry)) (now (directory .entry)) (now (cells .entry))) ⌝ }
+    requires { ⌜ Good (lent heap slots scalars list directory cells) ⌝ }
+    ensures { λ r. ⌜ Performs (Calls.store-part w Parts.key v) (before heap slots scalars list directory cells) (doneIs r) (after heap slots scalars list directory cells) ⌝ }
 {
     store_scalar(slots, scalars, heap.fresh, w, KEY, v)
 }
@@ -839,8 +839,8 @@ pub fn store_result(
     w: u64,
     v: u64,
 ) -> Done
-    requires { ⌜ Good (state heap (now slots) (now scalars) (now list) (now directory) (now cells)) ⌝ }
-    ensures { λ r. ⌜ Performs (Calls.store-part w Parts.result v) (state heap (now (slots .entry)) (now (scalars .entry)) (now (list .entry)) (now (directory .entry)) (now (cells .entry))) (doneIs r) (state heap (now (slots .entry)) (now (scalars .exit)) (now (list .entry)) (now (directory .entry)) (now (cells .entry))) ⌝ }
+    requires { ⌜ Good (lent heap slots scalars list directory cells) ⌝ }
+    ensures { λ r. ⌜ Performs (Calls.store-part w Parts.result v) (before heap slots scalars list directory cells) (doneIs r) (after heap slots scalars list directory cells) ⌝ }
 {
     store_scalar(slots, scalars, heap.fresh, w, RESULT, v)
 }
@@ -855,8 +855,8 @@ pub fn store_signal(
     w: u64,
     v: u64,
 ) -> Done
-    requires { ⌜ Good (state heap (now slots) (now scalars) (now list) (now directory) (now cells)) ⌝ }
-    ensures { λ r. ⌜ Performs (Calls.store-part w Parts.signal v) (state heap (now (slots .entry)) (now (scalars .entry)) (now (list .entry)) (now (directory .entry)) (now (cells .entry))) (doneIs r) (state heap (now (slots .entry)) (now (scalars .exit)) (now (list .entry)) (now (directory .entry)) (now (cells .entry))) ⌝ }
+    requires { ⌜ Good (lent heap slots scalars list directory cells) ⌝ }
+    ensures { λ r. ⌜ Performs (Calls.store-part w Parts.signal v) (before heap slots scalars list directory cells) (doneIs r) (after heap slots scalars list directory cells) ⌝ }
 {
     store_scalar(slots, scalars, heap.fresh, w, SIGNAL, v)
 }
@@ -872,8 +872,8 @@ pub fn set_state(
     w: u64,
     s: u64,
 ) -> Done
-    requires { ⌜ Good (state heap (now slots) (now scalars) (now list) (now directory) (now cells)) ⌝ }
-    ensures { λ r. ⌜ Performs (Calls.set-state w s) (state heap (now (slots .entry)) (now (scalars .entry)) (now (list .entry)) (now (directory .entry)) (now (cells .entry))) (doneIs r) (state heap (now (slots .exit)) (now (scalars .entry)) (now (list .entry)) (now (directory .entry)) (now (cells .entry))) ⌝ }
+    requires { ⌜ Good (lent heap slots scalars list directory cells) ⌝ }
+    ensures { λ r. ⌜ Performs (Calls.set-state w s) (before heap slots scalars list directory cells) (doneIs r) (after heap slots scalars list directory cells) ⌝ }
 {
     if 4 < s {
         return Done::Refused(Refusal::BadType);
@@ -899,8 +899,8 @@ pub fn store_item(
     i: u64,
     v: u64,
 ) -> Done
-    requires { ⌜ Good (state heap (now slots) (now scalars) (now list) (now directory) (now cells)) ⌝ }
-    ensures { λ r. ⌜ Performs (Calls.store-item w i v) (state heap (now (slots .entry)) (now (scalars .entry)) (now (list .entry)) (now (directory .entry)) (now (cells .entry))) (doneIs r) (state heap (now (slots .entry)) (now (scalars .entry)) (now (list .entry)) (now (directory .entry)) (now (cells .exit))) ⌝ }
+    requires { ⌜ Good (lent heap slots scalars list directory cells) ⌝ }
+    ensures { λ r. ⌜ Performs (Calls.store-item w i v) (before heap slots scalars list directory cells) (doneIs r) (after heap slots scalars list directory cells) ⌝ }
 {
     match lookup::locate(slots, heap.fresh, w, ARRAY) {
         Located::Refused(q) => Done::Refused(q),

@@ -7,7 +7,7 @@ ghost use Prim.Native.Nat.{_+_, _*_, _/_, _≤_};
 ghost use lib.ListN.{length, take};
 ghost use Rattle.account.specs.Account.{saturated};
 ghost use Rattle.model.specs.Calls as Calls;
-ghost use Rattle.heap.specs.State.{state};
+ghost use Rattle.heap.specs.State.{after, before, lent};
 ghost use Rattle.heap.specs.Good.{Good};
 ghost use Rattle.heap.specs.Promise.{Performs};
 ghost use Rattle.heap.specs.Answers.{madeIs};
@@ -52,8 +52,8 @@ pub fn new_integer(
     cells: &[u64],
     z: i64,
 ) -> Made
-    requires { ⌜ Good (state heap (now slots) (now scalars) (now list) (now directory) (now cells)) ⌝ }
-    ensures { λ r. ⌜ Performs (Calls.new-integer z) (state heap (now (slots .entry)) (now (scalars .entry)) (now (list .entry)) (now (directory .entry)) (now (cells .entry))) (madeIs (r .answer)) (state (r .heap) (now (slots .exit)) (now (scalars .entry)) (now (list .entry)) (now (directory .entry)) (now (cells .entry))) ⌝ }
+    requires { ⌜ Good (lent heap slots scalars list directory cells) ⌝ }
+    ensures { λ r. ⌜ Performs (Calls.new-integer z) (before heap slots scalars list directory cells) (madeIs (r .answer)) (after (r .heap) slots scalars list directory cells) ⌝ }
 {
     let weights = heap.weights;
     let h = making::header(INTEGER, words::bits_of(z), 0, 0, 0);
@@ -79,8 +79,8 @@ pub fn new_cell(
     t: u64,
     w: u64,
 ) -> Made
-    requires { ⌜ Good (state heap (now slots) (now scalars) (now list) (now directory) (now cells)) ⌝ }
-    ensures { λ r. ⌜ Performs (Calls.new-cell t w) (state heap (now (slots .entry)) (now (scalars .entry)) (now (list .entry)) (now (directory .entry)) (now (cells .entry))) (madeIs (r .answer)) (state (r .heap) (now (slots .exit)) (now (scalars .entry)) (now (list .entry)) (now (directory .entry)) (now (cells .entry))) ⌝ }
+    requires { ⌜ Good (lent heap slots scalars list directory cells) ⌝ }
+    ensures { λ r. ⌜ Performs (Calls.new-cell t w) (before heap slots scalars list directory cells) (madeIs (r .answer)) (after (r .heap) slots scalars list directory cells) ⌝ }
 {
     if 2 < t {
         return Made {
@@ -112,8 +112,8 @@ pub fn new_error(
     kind: u16,
     w: u64,
 ) -> Made
-    requires { ⌜ Good (state heap (now slots) (now scalars) (now list) (now directory) (now cells)) ⌝ }
-    ensures { λ r. ⌜ Performs (Calls.new-error kind w) (state heap (now (slots .entry)) (now (scalars .entry)) (now (list .entry)) (now (directory .entry)) (now (cells .entry))) (madeIs (r .answer)) (state (r .heap) (now (slots .exit)) (now (scalars .entry)) (now (list .entry)) (now (directory .entry)) (now (cells .entry))) ⌝ }
+    requires { ⌜ Good (lent heap slots scalars list directory cells) ⌝ }
+    ensures { λ r. ⌜ Performs (Calls.new-error kind w) (before heap slots scalars list directory cells) (madeIs (r .answer)) (after (r .heap) slots scalars list directory cells) ⌝ }
 {
     let weights = heap.weights;
     let h = making::header(ERROR, w, kind as u64, 0, 0);
@@ -138,8 +138,8 @@ pub fn new_box(
     cells: &[u64],
     w: u64,
 ) -> Made
-    requires { ⌜ Good (state heap (now slots) (now scalars) (now list) (now directory) (now cells)) ⌝ }
-    ensures { λ r. ⌜ Performs (Calls.new-box w) (state heap (now (slots .entry)) (now (scalars .entry)) (now (list .entry)) (now (directory .entry)) (now (cells .entry))) (madeIs (r .answer)) (state (r .heap) (now (slots .exit)) (now (scalars .entry)) (now (list .entry)) (now (directory .entry)) (now (cells .entry))) ⌝ }
+    requires { ⌜ Good (lent heap slots scalars list directory cells) ⌝ }
+    ensures { λ r. ⌜ Performs (Calls.new-box w) (before heap slots scalars list directory cells) (madeIs (r .answer)) (after (r .heap) slots scalars list directory cells) ⌝ }
 {
     let weights = heap.weights;
     let h = making::header(BOX, w, 0, 0, 0);
@@ -165,8 +165,8 @@ pub fn new_struct(
     number: u64,
     fields: &[u64],
 ) -> Made
-    requires { ⌜ Good (state heap (now slots) (now scalars) (now list) (now directory) (now cells)) ⌝ }
-    ensures { λ r. ⌜ Performs (Calls.new-struct number (now (fields .entry))) (state heap (now (slots .entry)) (now (scalars .entry)) (now (list .entry)) (now (directory .entry)) (now (cells .entry))) (madeIs (r .answer)) (state (r .heap) (now (slots .exit)) (now (scalars .entry)) (now (list .entry)) (now (directory .exit)) (now (cells .exit))) ⌝ }
+    requires { ⌜ Good (lent heap slots scalars list directory cells) ⌝ }
+    ensures { λ r. ⌜ Performs (Calls.new-struct number (now (fields .entry))) (before heap slots scalars list directory cells) (madeIs (r .answer)) (after (r .heap) slots scalars list directory cells) ⌝ }
 {
     making::new_words(
         heap,
@@ -193,8 +193,8 @@ pub fn new_function(
     number: u64,
     captures: &[u64],
 ) -> Made
-    requires { ⌜ Good (state heap (now slots) (now scalars) (now list) (now directory) (now cells)) ⌝ }
-    ensures { λ r. ⌜ Performs (Calls.new-function import number (now (captures .entry))) (state heap (now (slots .entry)) (now (scalars .entry)) (now (list .entry)) (now (directory .entry)) (now (cells .entry))) (madeIs (r .answer)) (state (r .heap) (now (slots .exit)) (now (scalars .entry)) (now (list .entry)) (now (directory .exit)) (now (cells .exit))) ⌝ }
+    requires { ⌜ Good (lent heap slots scalars list directory cells) ⌝ }
+    ensures { λ r. ⌜ Performs (Calls.new-function import number (now (captures .entry))) (before heap slots scalars list directory cells) (madeIs (r .answer)) (after (r .heap) slots scalars list directory cells) ⌝ }
 {
     let mut mode: u64 = 0;
     if import {
@@ -224,8 +224,8 @@ pub fn new_array(
     t: u64,
     length: i64,
 ) -> Made
-    requires { ⌜ Good (state heap (now slots) (now scalars) (now list) (now directory) (now cells)) ⌝ }
-    ensures { λ r. ⌜ Performs (Calls.new-array t length) (state heap (now (slots .entry)) (now (scalars .entry)) (now (list .entry)) (now (directory .entry)) (now (cells .entry))) (madeIs (r .answer)) (state (r .heap) (now (slots .exit)) (now (scalars .entry)) (now (list .entry)) (now (directory .exit)) (now (cells .exit))) ⌝ }
+    requires { ⌜ Good (lent heap slots scalars list directory cells) ⌝ }
+    ensures { λ r. ⌜ Performs (Calls.new-array t length) (before heap slots scalars list directory cells) (madeIs (r .answer)) (after (r .heap) slots scalars list directory cells) ⌝ }
 {
     if 2 < t {
         return Made {
@@ -260,8 +260,8 @@ pub fn new_string(
     cells: &mut [u64],
     bytes: &[u8],
 ) -> Made
-    requires { ⌜ Good (state heap (now slots) (now scalars) (now list) (now directory) (now cells)) ⌝ }
-    ensures { λ r. ⌜ Performs (Calls.new-string (now (bytes .entry))) (state heap (now (slots .entry)) (now (scalars .entry)) (now (list .entry)) (now (directory .entry)) (now (cells .entry))) (madeIs (r .answer)) (state (r .heap) (now (slots .exit)) (now (scalars .entry)) (now (list .entry)) (now (directory .exit)) (now (cells .exit))) ⌝ }
+    requires { ⌜ Good (lent heap slots scalars list directory cells) ⌝ }
+    ensures { λ r. ⌜ Performs (Calls.new-string (now (bytes .entry))) (before heap slots scalars list directory cells) (madeIs (r .answer)) (after (r .heap) slots scalars list directory cells) ⌝ }
 {
     let weights = heap.weights;
     let n = bytes.len() as u64;
@@ -331,8 +331,8 @@ fn place_coroutine(
     size: u64,
     bytes: u64,
 ) -> Made
-    requires { ⌜ Placeable (state heap (now slots) (now scalars) (now list) (now directory) (now cells)) bytes size × (size ≡ length (now registers) + 4 * frames) ⌝ }
-    ensures { λ r. ⌜ Seated (state heap (now (slots .entry)) (now (scalars .entry)) (now (list .entry)) (now (directory .entry)) (now (cells .entry))) k (now (registers .entry)) frames size bytes (r .answer) (state (r .heap) (now (slots .exit)) (now (scalars .exit)) (now (list .entry)) (now (directory .exit)) (now (cells .exit))) ⌝ }
+    requires { ⌜ Placeable (lent heap slots scalars list directory cells) bytes size × (size ≡ length (now registers) + 4 * frames) ⌝ }
+    ensures { λ r. ⌜ Seated (before heap slots scalars list directory cells) k (now (registers .entry)) frames size bytes (r .answer) (after (r .heap) slots scalars list directory cells) ⌝ }
 {
     let x = Scalars {
         a: 0,
@@ -376,8 +376,8 @@ fn begin(
     registers: &[u64],
     frames: usize,
 ) -> Begun
-    requires { ⌜ Good (state heap (now slots) (now scalars) (now list) (now directory) (now cells)) ⌝ }
-    ensures { λ r. ⌜ Begins (state heap (now (slots .entry)) (now (scalars .entry)) (now (list .entry)) (now (directory .entry)) (now (cells .entry))) k (now (registers .entry)) frames r (state (r .made .heap) (now (slots .exit)) (now (scalars .exit)) (now (list .entry)) (now (directory .exit)) (now (cells .exit))) ⌝ }
+    requires { ⌜ Good (lent heap slots scalars list directory cells) ⌝ }
+    ensures { λ r. ⌜ Begins (before heap slots scalars list directory cells) k (now (registers .entry)) frames r (after (r .made .heap) slots scalars list directory cells) ⌝ }
 {
     if 4 < k.state {
         return refuse(heap, Refusal::BadType);
@@ -428,8 +428,8 @@ pub fn new_coroutine_flat(
     registers: &[u64],
     frames: &[u64],
 ) -> Made
-    requires { ⌜ Good (state heap (now slots) (now scalars) (now list) (now directory) (now cells)) ⌝ }
-    ensures { λ r. ⌜ Performs (callOf k (now (registers .entry)) (framesIn (now (frames .entry)) 0 (length (now (frames .entry)) / 4))) (state heap (now (slots .entry)) (now (scalars .entry)) (now (list .entry)) (now (directory .entry)) (now (cells .entry))) (madeIs (r .answer)) (state (r .heap) (now (slots .exit)) (now (scalars .exit)) (now (list .entry)) (now (directory .exit)) (now (cells .exit))) ⌝ }
+    requires { ⌜ Good (lent heap slots scalars list directory cells) ⌝ }
+    ensures { λ r. ⌜ Performs (callOf k (now (registers .entry)) (framesIn (now (frames .entry)) 0 (length (now (frames .entry)) / 4))) (before heap slots scalars list directory cells) (madeIs (r .answer)) (after (r .heap) slots scalars list directory cells) ⌝ }
 {
     let b = begin(
         heap,
@@ -483,8 +483,8 @@ pub fn new_coroutine(
     registers: &[u64],
     frames: &[Frame],
 ) -> Made
-    requires { ⌜ Good (state heap (now slots) (now scalars) (now list) (now directory) (now cells)) ⌝ }
-    ensures { λ r. ⌜ Performs (callOf k (now (registers .entry)) (now (frames .entry))) (state heap (now (slots .entry)) (now (scalars .entry)) (now (list .entry)) (now (directory .entry)) (now (cells .entry))) (madeIs (r .answer)) (state (r .heap) (now (slots .exit)) (now (scalars .exit)) (now (list .entry)) (now (directory .exit)) (now (cells .exit))) ⌝ }
+    requires { ⌜ Good (lent heap slots scalars list directory cells) ⌝ }
+    ensures { λ r. ⌜ Performs (callOf k (now (registers .entry)) (now (frames .entry))) (before heap slots scalars list directory cells) (madeIs (r .answer)) (after (r .heap) slots scalars list directory cells) ⌝ }
 {
     let b = begin(
         heap,

@@ -5,7 +5,7 @@ ghost use Prim.Native.Nat.{_+_, _*_};
 ghost use lib.ListN.{length, replicate};
 ghost use Rattle.account.specs.Account.{saturated};
 ghost use Rattle.slots.specs.Header.{withRegion};
-ghost use Rattle.heap.specs.State.{state};
+ghost use Rattle.heap.specs.State.{after, before, lent, state};
 ghost use Rattle.heap.specs.Good.{Good};
 ghost use Rattle.heap.specs.Placing.{Object, RegionObject};
 ghost use Rattle.allocation.specs.Making.{Finishes, MadePlain, MadeWords, Placeable, Prepared, Scalarless, headerOf, withNext};
@@ -46,8 +46,8 @@ pub fn new_plain(
     header: Header,
     bytes: u64,
 ) -> Made
-    requires { ⌜ Good (state heap (now slots) (now scalars) (now list) (now directory) (now cells)) × Scalarless (withRegion header 0 0 0) [] ⌝ }
-    ensures { λ r. ⌜ MadePlain (state heap (now (slots .entry)) (now (scalars .entry)) (now (list .entry)) (now (directory .entry)) (now (cells .entry))) (state heap (now (slots .entry)) (now (scalars .entry)) (now (list .entry)) (now (directory .entry)) (now (cells .entry))) header bytes (r .answer) (state (r .heap) (now (slots .exit)) (now (scalars .entry)) (now (list .entry)) (now (directory .entry)) (now (cells .entry))) ⌝ }
+    requires { ⌜ Good (lent heap slots scalars list directory cells) × Scalarless (withRegion header 0 0 0) [] ⌝ }
+    ensures { λ r. ⌜ MadePlain (before heap slots scalars list directory cells) (before heap slots scalars list directory cells) header bytes (r .answer) (after (r .heap) slots scalars list directory cells) ⌝ }
 {
     match placing::judge_new(heap, cells.len() as u64, bytes, 0) {
         Done::Refused(q) => Made {
@@ -72,8 +72,8 @@ pub fn new_with_scalars(
     more: Scalars,
     bytes: u64,
 ) -> Made
-    requires { ⌜ Good (state heap (now slots) (now scalars) (now list) (now directory) (now cells)) × Object (withRegion header 0 0 0) [] more ⌝ }
-    ensures { λ r. ⌜ MadePlain (state heap (now (slots .entry)) (now (scalars .entry)) (now (list .entry)) (now (directory .entry)) (now (cells .entry))) (withNext (state heap (now (slots .entry)) (now (scalars .entry)) (now (list .entry)) (now (directory .entry)) (now (cells .entry))) more) header bytes (r .answer) (state (r .heap) (now (slots .exit)) (now (scalars .exit)) (now (list .entry)) (now (directory .entry)) (now (cells .entry))) ⌝ }
+    requires { ⌜ Good (lent heap slots scalars list directory cells) × Object (withRegion header 0 0 0) [] more ⌝ }
+    ensures { λ r. ⌜ MadePlain (before heap slots scalars list directory cells) (withNext (before heap slots scalars list directory cells) more) header bytes (r .answer) (after (r .heap) slots scalars list directory cells) ⌝ }
 {
     match placing::judge_new(heap, cells.len() as u64, bytes, 0) {
         Done::Refused(q) => Made {
@@ -106,8 +106,8 @@ pub(crate) fn prepare(
     bytes: u64,
     size: u64,
 ) -> Settled
-    requires { ⌜ Good (state heap (now slots) (now scalars) (now list) (now directory) (now cells)) ⌝ }
-    ensures { λ r. ⌜ Prepared (state heap (now (slots .entry)) (now (scalars .entry)) (now (list .entry)) (now (directory .entry)) (now (cells .entry))) bytes size (r .done) (state (r .heap) (now (slots .exit)) (now (scalars .entry)) (now (list .entry)) (now (directory .exit)) (now (cells .exit))) ⌝ }
+    requires { ⌜ Good (lent heap slots scalars list directory cells) ⌝ }
+    ensures { λ r. ⌜ Prepared (before heap slots scalars list directory cells) bytes size (r .done) (state (r .heap) (now (slots .exit)) (now (scalars .entry)) (now (list .entry)) (now (directory .exit)) (now (cells .exit))) ⌝ }
 {
     match placing::judge_new(heap, cells.len() as u64, bytes, size) {
         Done::Refused(q) => Settled {
@@ -141,8 +141,8 @@ pub(crate) fn finish(
     header: Header,
     bytes: u64,
 ) -> Made
-    requires { ⌜ Placeable (state heap (now slots) (now scalars) (now list) (now directory) (now cells)) bytes (header .size) × RegionObject (state heap (now slots) (now scalars) (now list) (now directory) (now cells)) header ⌝ }
-    ensures { λ r. ⌜ Finishes (state heap (now (slots .entry)) (now (scalars .entry)) (now (list .entry)) (now (directory .entry)) (now (cells .entry))) header bytes (r .answer) (state (r .heap) (now (slots .exit)) (now (scalars .entry)) (now (list .entry)) (now (directory .exit)) (now (cells .entry))) ⌝ }
+    requires { ⌜ Placeable (lent heap slots scalars list directory cells) bytes (header .size) × RegionObject (lent heap slots scalars list directory cells) header ⌝ }
+    ensures { λ r. ⌜ Finishes (before heap slots scalars list directory cells) header bytes (r .answer) (state (r .heap) (now (slots .exit)) (now (scalars .entry)) (now (list .entry)) (now (directory .exit)) (now (cells .entry))) ⌝ }
 {
     if header.size == 0 {
         return placing::place_plain(heap, slots, scalars, list, directory, cells, header, bytes);
@@ -163,8 +163,8 @@ pub(crate) fn new_words(
     mode: u64,
     words: &[u64],
 ) -> Made
-    requires { ⌜ Good (state heap (now slots) (now scalars) (now list) (now directory) (now cells)) × Scalarless (headerOf kind value mode (length (now words)) (length (now words))) (now words) ⌝ }
-    ensures { λ r. ⌜ MadeWords (state heap (now (slots .entry)) (now (scalars .entry)) (now (list .entry)) (now (directory .entry)) (now (cells .entry))) (headerOf kind value mode (length (now (words .entry))) (length (now (words .entry)))) (saturated (heap .weights .slot + 8 * length (now (words .entry)))) (now (words .entry)) (r .answer) (state (r .heap) (now (slots .exit)) (now (scalars .entry)) (now (list .entry)) (now (directory .exit)) (now (cells .exit))) × Good (state (r .heap) (now (slots .exit)) (now (scalars .entry)) (now (list .entry)) (now (directory .exit)) (now (cells .exit))) ⌝ }
+    requires { ⌜ Good (lent heap slots scalars list directory cells) × Scalarless (headerOf kind value mode (length (now words)) (length (now words))) (now words) ⌝ }
+    ensures { λ r. ⌜ MadeWords (before heap slots scalars list directory cells) (headerOf kind value mode (length (now (words .entry))) (length (now (words .entry)))) (saturated (heap .weights .slot + 8 * length (now (words .entry)))) (now (words .entry)) (r .answer) (state (r .heap) (now (slots .exit)) (now (scalars .entry)) (now (list .entry)) (now (directory .exit)) (now (cells .exit))) × Good (state (r .heap) (now (slots .exit)) (now (scalars .entry)) (now (list .entry)) (now (directory .exit)) (now (cells .exit))) ⌝ }
 {
     let weights = heap.weights;
     let n = words.len() as u64;
@@ -196,8 +196,8 @@ pub(crate) fn new_items(
     t: u64,
     n: u64,
 ) -> Made
-    requires { ⌜ Good (state heap (now slots) (now scalars) (now list) (now directory) (now cells)) ⌝ }
-    ensures { λ r. ⌜ MadeWords (state heap (now (slots .entry)) (now (scalars .entry)) (now (list .entry)) (now (directory .entry)) (now (cells .entry))) (headerOf 6 0 t n n) (saturated (heap .weights .slot + 8 * n)) (replicate n 0) (r .answer) (state (r .heap) (now (slots .exit)) (now (scalars .entry)) (now (list .entry)) (now (directory .exit)) (now (cells .exit))) × Good (state (r .heap) (now (slots .exit)) (now (scalars .entry)) (now (list .entry)) (now (directory .exit)) (now (cells .exit))) ⌝ }
+    requires { ⌜ Good (lent heap slots scalars list directory cells) ⌝ }
+    ensures { λ r. ⌜ MadeWords (before heap slots scalars list directory cells) (headerOf 6 0 t n n) (saturated (heap .weights .slot + 8 * n)) (replicate n 0) (r .answer) (state (r .heap) (now (slots .exit)) (now (scalars .entry)) (now (list .entry)) (now (directory .exit)) (now (cells .exit))) × Good (state (r .heap) (now (slots .exit)) (now (scalars .entry)) (now (list .entry)) (now (directory .exit)) (now (cells .exit))) ⌝ }
 {
     let weights = heap.weights;
     let bytes = word_bytes(weights.slot, n);

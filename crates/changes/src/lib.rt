@@ -5,7 +5,7 @@ ghost use mathlib.Core.Option.{some};
 ghost use Prim.Native.Nat.{ℕ};
 ghost use Rattle.layout.specs.Sections.{layoutOf};
 ghost use Rattle.heap.specs.Answers.{doneIs, madeIs, readingIs};
-ghost use Rattle.heap.specs.State.{state};
+ghost use Rattle.heap.specs.State.{after, before, lent};
 ghost use Rattle.heap.specs.Good.{Good, Ready};
 ghost use Rattle.collections.specs.Answers.{perhapsIs};
 ghost use Rattle.collector.specs.Answer.{collectionIs};
@@ -114,8 +114,8 @@ fn new_call(
     code: u64,
     o: Operands,
 ) -> Turn
-    requires { ⌜ Good (state heap (now slots) (now scalars) (now list) (now directory) (now cells)) ⌝ }
-    ensures { λ r. ⌜ ChangedBy (state heap (now (slots .entry)) (now (scalars .entry)) (now (list .entry)) (now (directory .entry)) (now (cells .entry))) (newCall code o) (r .performed) (state (r .heap) (now (slots .exit)) (now (scalars .exit)) (now (list .entry)) (now (directory .exit)) (now (cells .exit))) ⌝ }
+    requires { ⌜ Good (lent heap slots scalars list directory cells) ⌝ }
+    ensures { λ r. ⌜ ChangedBy (before heap slots scalars list directory cells) (newCall code o) (r .performed) (after (r .heap) slots scalars list directory cells) ⌝ }
 {
     let a = o.a;
     let b = o.b;
@@ -170,8 +170,8 @@ fn part_store(
     part: u64,
     v: u64,
 ) -> Turn
-    requires { ⌜ Good (state heap (now slots) (now scalars) (now list) (now directory) (now cells)) ⌝ }
-    ensures { λ r. ⌜ ChangedBy (state heap (now (slots .entry)) (now (scalars .entry)) (now (list .entry)) (now (directory .entry)) (now (cells .entry))) (partStore w part v) (r .performed) (state (r .heap) (now (slots .entry)) (now (scalars .exit)) (now (list .entry)) (now (directory .entry)) (now (cells .entry))) ⌝ }
+    requires { ⌜ Good (lent heap slots scalars list directory cells) ⌝ }
+    ensures { λ r. ⌜ ChangedBy (before heap slots scalars list directory cells) (partStore w part v) (r .performed) (after (r .heap) slots scalars list directory cells) ⌝ }
 {
     match part {
         0 => {
@@ -208,8 +208,8 @@ fn store_call(
     code: u64,
     o: Operands,
 ) -> Turn
-    requires { ⌜ Good (state heap (now slots) (now scalars) (now list) (now directory) (now cells)) ⌝ }
-    ensures { λ r. ⌜ ChangedBy (state heap (now (slots .entry)) (now (scalars .entry)) (now (list .entry)) (now (directory .entry)) (now (cells .entry))) (storeCall code o) (r .performed) (state (r .heap) (now (slots .exit)) (now (scalars .exit)) (now (list .entry)) (now (directory .entry)) (now (cells .exit))) ⌝ }
+    requires { ⌜ Good (lent heap slots scalars list directory cells) ⌝ }
+    ensures { λ r. ⌜ ChangedBy (before heap slots scalars list directory cells) (storeCall code o) (r .performed) (after (r .heap) slots scalars list directory cells) ⌝ }
 {
     let a = o.a;
     let b = o.b;
@@ -262,8 +262,8 @@ fn grow_call(
     code: u64,
     o: Operands,
 ) -> Turn
-    requires { ⌜ Good (state heap (now slots) (now scalars) (now list) (now directory) (now cells)) ⌝ }
-    ensures { λ r. ⌜ ChangedBy (state heap (now (slots .entry)) (now (scalars .entry)) (now (list .entry)) (now (directory .entry)) (now (cells .entry))) (growCall code o) (r .performed) (state (r .heap) (now (slots .exit)) (now (scalars .exit)) (now (list .entry)) (now (directory .exit)) (now (cells .exit))) ⌝ }
+    requires { ⌜ Good (lent heap slots scalars list directory cells) ⌝ }
+    ensures { λ r. ⌜ ChangedBy (before heap slots scalars list directory cells) (growCall code o) (r .performed) (after (r .heap) slots scalars list directory cells) ⌝ }
 {
     let a = o.a;
     let b = o.b;
@@ -302,8 +302,8 @@ fn map_change(
     code: u64,
     o: Operands,
 ) -> Turn
-    requires { ⌜ Good (state heap (now slots) (now scalars) (now list) (now directory) (now cells)) ⌝ }
-    ensures { λ r. ⌜ ChangedBy (state heap (now (slots .entry)) (now (scalars .entry)) (now (list .entry)) (now (directory .entry)) (now (cells .entry))) (mapChange code o) (r .performed) (state (r .heap) (now (slots .exit)) (now (scalars .exit)) (now (list .entry)) (now (directory .exit)) (now (cells .exit))) ⌝ }
+    requires { ⌜ Good (lent heap slots scalars list directory cells) ⌝ }
+    ensures { λ r. ⌜ ChangedBy (before heap slots scalars list directory cells) (mapChange code o) (r .performed) (after (r .heap) slots scalars list directory cells) ⌝ }
 {
     let a = o.a;
     let b = o.b;
@@ -353,8 +353,8 @@ pub fn change_call(
     code: u64,
     o: Operands,
 ) -> Turn
-    requires { ⌜ Good (state heap (now slots) (now scalars) (now list) (now directory) (now cells)) ⌝ }
-    ensures { λ r. ⌜ ChangedBy (state heap (now (slots .entry)) (now (scalars .entry)) (now (list .entry)) (now (directory .entry)) (now (cells .entry))) (changeCall code o) (r .performed) (state (r .heap) (now (slots .exit)) (now (scalars .exit)) (now (list .entry)) (now (directory .exit)) (now (cells .exit))) ⌝ }
+    requires { ⌜ Good (lent heap slots scalars list directory cells) ⌝ }
+    ensures { λ r. ⌜ ChangedBy (before heap slots scalars list directory cells) (changeCall code o) (r .performed) (after (r .heap) slots scalars list directory cells) ⌝ }
 {
     let n = new_call(heap, slots, scalars, list, directory, cells, code, o);
     let p = n.performed;
@@ -391,8 +391,8 @@ fn coroutine_turn(
     words: &[u64],
     frames: &[u64],
 ) -> Turn
-    requires { ⌜ Good (state heap (now slots) (now scalars) (now list) (now directory) (now cells)) ⌝ }
-    ensures { λ r. ⌜ ChangedBy (state heap (now (slots .entry)) (now (scalars .entry)) (now (list .entry)) (now (directory .entry)) (now (cells .entry))) (some (newCoroutine o (now (words .entry)) (now (frames .entry)))) (r .performed) (state (r .heap) (now (slots .exit)) (now (scalars .exit)) (now (list .entry)) (now (directory .exit)) (now (cells .exit))) ⌝ }
+    requires { ⌜ Good (lent heap slots scalars list directory cells) ⌝ }
+    ensures { λ r. ⌜ ChangedBy (before heap slots scalars list directory cells) (some (newCoroutine o (now (words .entry)) (now (frames .entry)))) (r .performed) (after (r .heap) slots scalars list directory cells) ⌝ }
 {
     let k = Coroutine {
         state: o.a,
@@ -430,8 +430,8 @@ fn new_with_list(
     frames: &[u64],
     bytes: &[u8],
 ) -> Turn
-    requires { ⌜ Good (state heap (now slots) (now scalars) (now list) (now directory) (now cells)) ⌝ }
-    ensures { λ r. ⌜ ChangedBy (state heap (now (slots .entry)) (now (scalars .entry)) (now (list .entry)) (now (directory .entry)) (now (cells .entry))) (newWithList code o (now (words .entry)) (now (frames .entry)) (now (bytes .entry))) (r .performed) (state (r .heap) (now (slots .exit)) (now (scalars .exit)) (now (list .entry)) (now (directory .exit)) (now (cells .exit))) ⌝ }
+    requires { ⌜ Good (lent heap slots scalars list directory cells) ⌝ }
+    ensures { λ r. ⌜ ChangedBy (before heap slots scalars list directory cells) (newWithList code o (now (words .entry)) (now (frames .entry)) (now (bytes .entry))) (r .performed) (after (r .heap) slots scalars list directory cells) ⌝ }
 {
     let a = o.a;
     let b = o.b;
@@ -485,8 +485,8 @@ fn lent_call(
     bytes: &mut [u8],
     places: &mut [u64],
 ) -> Turn
-    requires { ⌜ Ready (state heap (now slots) (now scalars) (now list) (now directory) (now cells)) (now marks) (now order) (now layout) (now table) ⌝ }
-    ensures { λ r. ⌜ CommandedBy (layoutOf (now (layout .entry))) code (state heap (now (slots .entry)) (now (scalars .entry)) (now (list .entry)) (now (directory .entry)) (now (cells .entry))) (now (bytes .entry)) (now (places .entry)) (lentCall code o (now (words .entry)) (now (bytes .entry)) (now (places .entry))) (r .performed) (state (r .heap) (now (slots .exit)) (now (scalars .exit)) (now (list .exit)) (now (directory .entry)) (now (cells .entry))) (now (bytes .exit)) (now (places .exit)) ⌝ }
+    requires { ⌜ Ready (lent heap slots scalars list directory cells) (now marks) (now order) (now layout) (now table) ⌝ }
+    ensures { λ r. ⌜ CommandedBy (layoutOf (now (layout .entry))) code (before heap slots scalars list directory cells) (now (bytes .entry)) (now (places .entry)) (lentCall code o (now (words .entry)) (now (bytes .entry)) (now (places .entry))) (r .performed) (after (r .heap) slots scalars list directory cells) (now (bytes .exit)) (now (places .exit)) ⌝ }
     ensures { λ r. ⌜ now (marks .exit) ≡ now (marks .entry) ⌝ }
     ensures { λ r. ⌜ now (order .exit) ≡ now (order .entry) ⌝ }
 {
@@ -538,9 +538,9 @@ pub fn list_call(
     bytes: &mut [u8],
     places: &mut [u64],
 ) -> Turn
-    requires { ⌜ Ready (state heap (now slots) (now scalars) (now list) (now directory) (now cells)) (now marks) (now order) (now layout) (now table) ⌝ }
-    ensures { λ r. ⌜ CommandedBy (layoutOf (now (layout .entry))) code (state heap (now (slots .entry)) (now (scalars .entry)) (now (list .entry)) (now (directory .entry)) (now (cells .entry))) (now (bytes .entry)) (now (places .entry)) (listCall code o (now (words .entry)) (now (frames .entry)) (now (bytes .entry)) (now (places .entry))) (r .performed) (state (r .heap) (now (slots .exit)) (now (scalars .exit)) (now (list .exit)) (now (directory .exit)) (now (cells .exit))) (now (bytes .exit)) (now (places .exit)) ⌝ }
-    ensures { λ r. ⌜ Ready (state (r .heap) (now (slots .exit)) (now (scalars .exit)) (now (list .exit)) (now (directory .exit)) (now (cells .exit))) (now (marks .exit)) (now (order .exit)) (now (layout .entry)) (now (table .entry)) ⌝ }
+    requires { ⌜ Ready (lent heap slots scalars list directory cells) (now marks) (now order) (now layout) (now table) ⌝ }
+    ensures { λ r. ⌜ CommandedBy (layoutOf (now (layout .entry))) code (before heap slots scalars list directory cells) (now (bytes .entry)) (now (places .entry)) (listCall code o (now (words .entry)) (now (frames .entry)) (now (bytes .entry)) (now (places .entry))) (r .performed) (after (r .heap) slots scalars list directory cells) (now (bytes .exit)) (now (places .exit)) ⌝ }
+    ensures { λ r. ⌜ Ready (after (r .heap) slots scalars list directory cells) (now (marks .exit)) (now (order .exit)) (now (layout .entry)) (now (table .entry)) ⌝ }
     ensures { λ r. ⌜ now (marks .exit) ≡ now (marks .entry) ⌝ }
     ensures { λ r. ⌜ now (order .exit) ≡ now (order .entry) ⌝ }
 {

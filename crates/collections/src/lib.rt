@@ -10,7 +10,7 @@ ghost use Rattle.cells.specs.Regions.{Grown, regionOf};
 ghost use Rattle.model.specs.Calls as Calls;
 ghost use Rattle.heap.specs.Answers.{doneIs, madeIs, readingIs, testIs};
 ghost use Rattle.heap.specs.Kinds.{cursorOf};
-ghost use Rattle.heap.specs.State.{state, withRegions};
+ghost use Rattle.heap.specs.State.{after, before, lent, withRegions};
 ghost use Rattle.heap.specs.Good.{Good};
 ghost use Rattle.heap.specs.Promise.{Performs, Reads};
 ghost use Rattle.heap.proofs.ReachLaws.{Target};
@@ -184,8 +184,8 @@ fn item(
     t: u64,
     w: u64,
 ) -> u64
-    requires { ⌜ Good (state heap (now slots) (now scalars) (now list) (now directory) (now cells)) ⌝ }
-    ensures { λ r. ⌜ ItemIs (state heap (now (slots .entry)) (now (scalars .entry)) (now (list .entry)) (now (directory .entry)) (now (cells .entry))) t w r ⌝ }
+    requires { ⌜ Good (lent heap slots scalars list directory cells) ⌝ }
+    ensures { λ r. ⌜ ItemIs (before heap slots scalars list directory cells) t w r ⌝ }
 {
     if t == DYNAMIC {
         return heap::deref(heap, slots, scalars, list, directory, cells, w);
@@ -279,8 +279,8 @@ fn longer(
     i: usize,
     size: u64,
 ) -> Top
-    requires good { ⌜ Good (state heap (now slots) (now scalars) (now list) (now directory) (now cells)) ⌝ }
-    requires room { ⌜ Lengthening (state heap (now slots) (now scalars) (now list) (now directory) (now cells)) i size ⌝ }
+    requires good { ⌜ Good (lent heap slots scalars list directory cells) ⌝ }
+    requires room { ⌜ Lengthening (lent heap slots scalars list directory cells) i size ⌝ }
     ensures { λ r. ⌜ Grown (heap .fresh) i size r (now (slots .entry)) (now (directory .entry)) (now (cells .entry)) (now (slots .exit)) (now (directory .exit)) (now (cells .exit)) ⌝ }
 {
     let h = slots::read_header(slots, i);
@@ -353,9 +353,9 @@ fn push_at(
     i: usize,
     v: u64,
 ) -> Changed
-    requires good { ⌜ Good (state heap (now slots) (now scalars) (now list) (now directory) (now cells)) ⌝ }
-    requires array { ⌜ Target (state heap (now slots) (now scalars) (now list) (now directory) (now cells)) w i 6 ⌝ }
-    ensures { λ r. ⌜ Performs (Calls.push w v) (state heap (now (slots .entry)) (now (scalars .entry)) (now (list .entry)) (now (directory .entry)) (now (cells .entry))) (doneIs (r .done)) (state (changedHeap heap r) (now (slots .exit)) (now (scalars .entry)) (now (list .entry)) (now (directory .exit)) (now (cells .exit))) ⌝ }
+    requires good { ⌜ Good (lent heap slots scalars list directory cells) ⌝ }
+    requires array { ⌜ Target (lent heap slots scalars list directory cells) w i 6 ⌝ }
+    ensures { λ r. ⌜ Performs (Calls.push w v) (before heap slots scalars list directory cells) (doneIs (r .done)) (after (changedHeap heap r) slots scalars list directory cells) ⌝ }
 {
     let h = slots::read_header(slots, i);
     let size = push_size(h.len, h.size);
@@ -462,9 +462,9 @@ fn insert_at(
     key: u64,
     value: u64,
 ) -> Changed
-    requires good { ⌜ Good (state heap (now slots) (now scalars) (now list) (now directory) (now cells)) ⌝ }
-    requires map { ⌜ IsMap (state heap (now slots) (now scalars) (now list) (now directory) (now cells)) i ⌝ }
-    ensures { λ r. ⌜ Inserts (state heap (now (slots .entry)) (now (scalars .entry)) (now (list .entry)) (now (directory .entry)) (now (cells .entry))) i hash key value (doneIs (r .done)) (state (changedHeap heap r) (now (slots .exit)) (now (scalars .exit)) (now (list .entry)) (now (directory .exit)) (now (cells .exit))) ⌝ }
+    requires good { ⌜ Good (lent heap slots scalars list directory cells) ⌝ }
+    requires map { ⌜ IsMap (lent heap slots scalars list directory cells) i ⌝ }
+    ensures { λ r. ⌜ Inserts (before heap slots scalars list directory cells) i hash key value (doneIs (r .done)) (after (changedHeap heap r) slots scalars list directory cells) ⌝ }
 {
     let h = slots::read_header(slots, i);
     let x = slots::read_scalars(scalars, i);
@@ -507,9 +507,9 @@ fn remove_place(
     i: usize,
     pos: usize,
 ) -> Changed
-    requires good { ⌜ Good (state heap (now slots) (now scalars) (now list) (now directory) (now cells)) ⌝ }
-    requires map { ⌜ IsMap (state heap (now slots) (now scalars) (now list) (now directory) (now cells)) i ⌝ }
-    ensures { λ r. ⌜ Removes (state heap (now (slots .entry)) (now (scalars .entry)) (now (list .entry)) (now (directory .entry)) (now (cells .entry))) i pos (doneIs (r .done)) (state (changedHeap heap r) (now (slots .exit)) (now (scalars .exit)) (now (list .entry)) (now (directory .exit)) (now (cells .exit))) ⌝ }
+    requires good { ⌜ Good (lent heap slots scalars list directory cells) ⌝ }
+    requires map { ⌜ IsMap (lent heap slots scalars list directory cells) i ⌝ }
+    ensures { λ r. ⌜ Removes (before heap slots scalars list directory cells) i pos (doneIs (r .done)) (after (changedHeap heap r) slots scalars list directory cells) ⌝ }
 {
     let h = slots::read_header(slots, i);
     let s = map_of(h, slots::read_scalars(scalars, i));
@@ -583,10 +583,10 @@ fn visit_array(
     h: Header,
     x: Scalars,
 ) -> Visit
-    requires good { ⌜ Good (state heap (now slots) (now scalars) (now list) (now directory) (now cells)) ⌝ }
-    requires array { ⌜ ArrayKnown (state heap (now slots) (now scalars) (now list) (now directory) (now cells)) h ⌝ }
+    requires good { ⌜ Good (lent heap slots scalars list directory cells) ⌝ }
+    requires array { ⌜ ArrayKnown (lent heap slots scalars list directory cells) h ⌝ }
     requires epoch { ⌜ x .g < 4294967296 ⌝ }
-    ensures { λ r. ⌜ VisitsArray (state heap (now (slots .entry)) (now (scalars .entry)) (now (list .entry)) (now (directory .entry)) (now (cells .entry))) h x r ⌝ }
+    ensures { λ r. ⌜ VisitsArray (before heap slots scalars list directory cells) h x r ⌝ }
 {
     if h.len <= x.f {
         return ended(x);
@@ -625,10 +625,10 @@ fn visit_map(
     y: Scalars,
     x: Scalars,
 ) -> Visit
-    requires good { ⌜ Good (state heap (now slots) (now scalars) (now list) (now directory) (now cells)) ⌝ }
-    requires map { ⌜ MapKnown (state heap (now slots) (now scalars) (now list) (now directory) (now cells)) h y ⌝ }
+    requires good { ⌜ Good (lent heap slots scalars list directory cells) ⌝ }
+    requires map { ⌜ MapKnown (lent heap slots scalars list directory cells) h y ⌝ }
     requires epoch { ⌜ x .g < 4294967296 ⌝ }
-    ensures { λ r. ⌜ VisitsMap (state heap (now (slots .entry)) (now (scalars .entry)) (now (list .entry)) (now (directory .entry)) (now (cells .entry))) h y x r ⌝ }
+    ensures { λ r. ⌜ VisitsMap (before heap slots scalars list directory cells) h y x r ⌝ }
 {
     let m = map_of(h, y);
     let s = map_store::step(m, region(cells, h), cursor_of(x));
@@ -660,9 +660,9 @@ fn advance(
     source: u64,
     x: Scalars,
 ) -> Visit
-    requires good { ⌜ Good (state heap (now slots) (now scalars) (now list) (now directory) (now cells)) ⌝ }
+    requires good { ⌜ Good (lent heap slots scalars list directory cells) ⌝ }
     requires epoch { ⌜ x .g < 4294967296 ⌝ }
-    ensures { λ r. ⌜ Visits (state heap (now (slots .entry)) (now (scalars .entry)) (now (list .entry)) (now (directory .entry)) (now (cells .entry))) source x r ⌝ }
+    ensures { λ r. ⌜ Visits (before heap slots scalars list directory cells) source x r ⌝ }
 {
     if x.a != 0 {
         return Visit {
@@ -697,8 +697,8 @@ pub fn live_count(
     cells: &[u64],
     w: u64,
 ) -> Reading
-    requires { ⌜ Good (state heap (now slots) (now scalars) (now list) (now directory) (now cells)) ⌝ }
-    ensures { λ r. ⌜ Reads (Calls.live-count w) (state heap (now (slots .entry)) (now (scalars .entry)) (now (list .entry)) (now (directory .entry)) (now (cells .entry))) (readingIs r) ⌝ }
+    requires { ⌜ Good (lent heap slots scalars list directory cells) ⌝ }
+    ensures { λ r. ⌜ Reads (Calls.live-count w) (before heap slots scalars list directory cells) (readingIs r) ⌝ }
 {
     word_of(slots, scalars, heap.fresh, w, MAP, 7)
 }
@@ -713,8 +713,8 @@ pub fn place_count(
     cells: &[u64],
     w: u64,
 ) -> Reading
-    requires { ⌜ Good (state heap (now slots) (now scalars) (now list) (now directory) (now cells)) ⌝ }
-    ensures { λ r. ⌜ Reads (Calls.place-count w) (state heap (now (slots .entry)) (now (scalars .entry)) (now (list .entry)) (now (directory .entry)) (now (cells .entry))) (readingIs r) ⌝ }
+    requires { ⌜ Good (lent heap slots scalars list directory cells) ⌝ }
+    ensures { λ r. ⌜ Reads (Calls.place-count w) (before heap slots scalars list directory cells) (readingIs r) ⌝ }
 {
     word_of(slots, slots, heap.fresh, w, MAP, 4)
 }
@@ -729,8 +729,8 @@ pub fn is_hashed(
     cells: &[u64],
     w: u64,
 ) -> Test
-    requires { ⌜ Good (state heap (now slots) (now scalars) (now list) (now directory) (now cells)) ⌝ }
-    ensures { λ r. ⌜ Reads (Calls.is-hashed w) (state heap (now (slots .entry)) (now (scalars .entry)) (now (list .entry)) (now (directory .entry)) (now (cells .entry))) (testIs r) ⌝ }
+    requires { ⌜ Good (lent heap slots scalars list directory cells) ⌝ }
+    ensures { λ r. ⌜ Reads (Calls.is-hashed w) (before heap slots scalars list directory cells) (testIs r) ⌝ }
 {
     match word_of(slots, scalars, heap.fresh, w, MAP, 2) {
         Reading::Refused(q) => Test::Refused(q),
@@ -748,8 +748,8 @@ pub fn key_type(
     cells: &[u64],
     w: u64,
 ) -> Reading
-    requires { ⌜ Good (state heap (now slots) (now scalars) (now list) (now directory) (now cells)) ⌝ }
-    ensures { λ r. ⌜ Reads (Calls.key-type w) (state heap (now (slots .entry)) (now (scalars .entry)) (now (list .entry)) (now (directory .entry)) (now (cells .entry))) (readingIs r) ⌝ }
+    requires { ⌜ Good (lent heap slots scalars list directory cells) ⌝ }
+    ensures { λ r. ⌜ Reads (Calls.key-type w) (before heap slots scalars list directory cells) (readingIs r) ⌝ }
 {
     word_of(slots, scalars, heap.fresh, w, MAP, 0)
 }
@@ -764,8 +764,8 @@ pub fn value_type(
     cells: &[u64],
     w: u64,
 ) -> Reading
-    requires { ⌜ Good (state heap (now slots) (now scalars) (now list) (now directory) (now cells)) ⌝ }
-    ensures { λ r. ⌜ Reads (Calls.value-type w) (state heap (now (slots .entry)) (now (scalars .entry)) (now (list .entry)) (now (directory .entry)) (now (cells .entry))) (readingIs r) ⌝ }
+    requires { ⌜ Good (lent heap slots scalars list directory cells) ⌝ }
+    ensures { λ r. ⌜ Reads (Calls.value-type w) (before heap slots scalars list directory cells) (readingIs r) ⌝ }
 {
     word_of(slots, scalars, heap.fresh, w, MAP, 1)
 }
@@ -780,8 +780,8 @@ pub fn map_epoch(
     cells: &[u64],
     w: u64,
 ) -> Reading
-    requires { ⌜ Good (state heap (now slots) (now scalars) (now list) (now directory) (now cells)) ⌝ }
-    ensures { λ r. ⌜ Reads (Calls.map-epoch w) (state heap (now (slots .entry)) (now (scalars .entry)) (now (list .entry)) (now (directory .entry)) (now (cells .entry))) (readingIs r) ⌝ }
+    requires { ⌜ Good (lent heap slots scalars list directory cells) ⌝ }
+    ensures { λ r. ⌜ Reads (Calls.map-epoch w) (before heap slots scalars list directory cells) (readingIs r) ⌝ }
 {
     word_of(slots, scalars, heap.fresh, w, MAP, 6)
 }
@@ -796,8 +796,8 @@ pub fn next_sequence(
     cells: &[u64],
     w: u64,
 ) -> Reading
-    requires { ⌜ Good (state heap (now slots) (now scalars) (now list) (now directory) (now cells)) ⌝ }
-    ensures { λ r. ⌜ Reads (Calls.next-sequence w) (state heap (now (slots .entry)) (now (scalars .entry)) (now (list .entry)) (now (directory .entry)) (now (cells .entry))) (readingIs r) ⌝ }
+    requires { ⌜ Good (lent heap slots scalars list directory cells) ⌝ }
+    ensures { λ r. ⌜ Reads (Calls.next-sequence w) (before heap slots scalars list directory cells) (readingIs r) ⌝ }
 {
     word_of(slots, scalars, heap.fresh, w, MAP, 5)
 }
@@ -812,8 +812,8 @@ pub fn entry_capacity(
     cells: &[u64],
     w: u64,
 ) -> Reading
-    requires { ⌜ Good (state heap (now slots) (now scalars) (now list) (now directory) (now cells)) ⌝ }
-    ensures { λ r. ⌜ Reads (Calls.entry-capacity w) (state heap (now (slots .entry)) (now (scalars .entry)) (now (list .entry)) (now (directory .entry)) (now (cells .entry))) (readingIs r) ⌝ }
+    requires { ⌜ Good (lent heap slots scalars list directory cells) ⌝ }
+    ensures { λ r. ⌜ Reads (Calls.entry-capacity w) (before heap slots scalars list directory cells) (readingIs r) ⌝ }
 {
     word_of(slots, slots, heap.fresh, w, MAP, 2)
 }
@@ -828,8 +828,8 @@ pub fn index_length(
     cells: &[u64],
     w: u64,
 ) -> Reading
-    requires { ⌜ Good (state heap (now slots) (now scalars) (now list) (now directory) (now cells)) ⌝ }
-    ensures { λ r. ⌜ Reads (Calls.index-length w) (state heap (now (slots .entry)) (now (scalars .entry)) (now (list .entry)) (now (directory .entry)) (now (cells .entry))) (readingIs r) ⌝ }
+    requires { ⌜ Good (lent heap slots scalars list directory cells) ⌝ }
+    ensures { λ r. ⌜ Reads (Calls.index-length w) (before heap slots scalars list directory cells) (readingIs r) ⌝ }
 {
     word_of(slots, slots, heap.fresh, w, MAP, 3)
 }
@@ -844,8 +844,8 @@ pub fn noted_key(
     cells: &[u64],
     w: u64,
 ) -> Noted
-    requires { ⌜ Good (state heap (now slots) (now scalars) (now list) (now directory) (now cells)) ⌝ }
-    ensures { λ r. ⌜ Reads (Calls.noted-key w) (state heap (now (slots .entry)) (now (scalars .entry)) (now (list .entry)) (now (directory .entry)) (now (cells .entry))) (notedSeen r) ⌝ }
+    requires { ⌜ Good (lent heap slots scalars list directory cells) ⌝ }
+    ensures { λ r. ⌜ Reads (Calls.noted-key w) (before heap slots scalars list directory cells) (notedSeen r) ⌝ }
 {
     match lookup::locate(slots, heap.fresh, w, MAP) {
         Located::Refused(q) => Noted::Refused(q),
@@ -869,8 +869,8 @@ pub fn next_key(
     cells: &[u64],
     w: u64,
 ) -> NextInt
-    requires { ⌜ Good (state heap (now slots) (now scalars) (now list) (now directory) (now cells)) ⌝ }
-    ensures { λ r. ⌜ Reads (Calls.next-key w) (state heap (now (slots .entry)) (now (scalars .entry)) (now (list .entry)) (now (directory .entry)) (now (cells .entry))) (nextSeen r) ⌝ }
+    requires { ⌜ Good (lent heap slots scalars list directory cells) ⌝ }
+    ensures { λ r. ⌜ Reads (Calls.next-key w) (before heap slots scalars list directory cells) (nextSeen r) ⌝ }
 {
     match lookup::locate(slots, heap.fresh, w, MAP) {
         Located::Refused(q) => NextInt::Refused(q),
@@ -896,8 +896,8 @@ pub fn growth_bytes(
     w: u64,
     key: u64,
 ) -> Reading
-    requires { ⌜ Good (state heap (now slots) (now scalars) (now list) (now directory) (now cells)) ⌝ }
-    ensures { λ r. ⌜ Reads (Calls.growth-bytes w key) (state heap (now (slots .entry)) (now (scalars .entry)) (now (list .entry)) (now (directory .entry)) (now (cells .entry))) (readingIs r) ⌝ }
+    requires { ⌜ Good (lent heap slots scalars list directory cells) ⌝ }
+    ensures { λ r. ⌜ Reads (Calls.growth-bytes w key) (before heap slots scalars list directory cells) (readingIs r) ⌝ }
 {
     match lookup::locate(slots, heap.fresh, w, MAP) {
         Located::Refused(q) => Reading::Refused(q),
@@ -928,8 +928,8 @@ pub fn find(
     hash: u64,
     key: u64,
 ) -> Perhaps
-    requires { ⌜ Good (state heap (now slots) (now scalars) (now list) (now directory) (now cells)) ⌝ }
-    ensures { λ r. ⌜ Reads (Calls.find w hash key) (state heap (now (slots .entry)) (now (scalars .entry)) (now (list .entry)) (now (directory .entry)) (now (cells .entry))) (perhapsIs r) ⌝ }
+    requires { ⌜ Good (lent heap slots scalars list directory cells) ⌝ }
+    ensures { λ r. ⌜ Reads (Calls.find w hash key) (before heap slots scalars list directory cells) (perhapsIs r) ⌝ }
 {
     match lookup::locate(slots, heap.fresh, w, MAP) {
         Located::Refused(q) => Perhaps::Refused(q),
@@ -955,8 +955,8 @@ pub fn read_entry(
     w: u64,
     pos: u64,
 ) -> EntryRead
-    requires { ⌜ Good (state heap (now slots) (now scalars) (now list) (now directory) (now cells)) ⌝ }
-    ensures { λ r. ⌜ Reads (Calls.read-entry w pos) (state heap (now (slots .entry)) (now (scalars .entry)) (now (list .entry)) (now (directory .entry)) (now (cells .entry))) (entrySeen r) ⌝ }
+    requires { ⌜ Good (lent heap slots scalars list directory cells) ⌝ }
+    ensures { λ r. ⌜ Reads (Calls.read-entry w pos) (before heap slots scalars list directory cells) (entrySeen r) ⌝ }
 {
     match lookup::locate(slots, heap.fresh, w, MAP) {
         Located::Refused(q) => EntryRead::Refused(q),
@@ -982,8 +982,8 @@ pub fn step_cursor(
     w: u64,
     c: Cursor,
 ) -> Moved
-    requires { ⌜ Good (state heap (now slots) (now scalars) (now list) (now directory) (now cells)) ⌝ }
-    ensures { λ r. ⌜ Reads (Calls.next w (cursorIs c)) (state heap (now (slots .entry)) (now (scalars .entry)) (now (list .entry)) (now (directory .entry)) (now (cells .entry))) (stepSeen (cursorIs c) r) ⌝ }
+    requires { ⌜ Good (lent heap slots scalars list directory cells) ⌝ }
+    ensures { λ r. ⌜ Reads (Calls.next w (cursorIs c)) (before heap slots scalars list directory cells) (stepSeen (cursorIs c) r) ⌝ }
 {
     match lookup::locate(slots, heap.fresh, w, MAP) {
         Located::Refused(q) => Moved::Refused(q),
@@ -1006,8 +1006,8 @@ fn step_lent(
     w: u64,
     c: Cursor,
 ) -> Lent
-    requires { ⌜ Good (state heap (now slots) (now scalars) (now list) (now directory) (now cells)) ⌝ }
-    ensures { λ r. ⌜ Reads (Calls.next w (cursorIs c)) (state heap (now (slots .entry)) (now (scalars .entry)) (now (list .entry)) (now (directory .entry)) (now (cells .entry))) (lentSeen (cursorIs (r .cursor)) (r .answer)) ⌝ }
+    requires { ⌜ Good (lent heap slots scalars list directory cells) ⌝ }
+    ensures { λ r. ⌜ Reads (Calls.next w (cursorIs c)) (before heap slots scalars list directory cells) (lentSeen (cursorIs (r .cursor)) (r .answer)) ⌝ }
 {
     match step_cursor(heap, slots, scalars, list, directory, cells, w, c) {
         Moved::Refused(q) => Lent {
@@ -1042,8 +1042,8 @@ pub fn next(
     w: u64,
     cursor: &mut Cursor,
 ) -> Perhaps
-    requires { ⌜ Good (state heap (now slots) (now scalars) (now list) (now directory) (now cells)) ⌝ }
-    ensures { λ r. ⌜ Reads (Calls.next w (cursorIs (now (cursor .entry)))) (state heap (now (slots .entry)) (now (scalars .entry)) (now (list .entry)) (now (directory .entry)) (now (cells .entry))) (lentSeen (cursorIs (now (cursor .exit))) r) ⌝ }
+    requires { ⌜ Good (lent heap slots scalars list directory cells) ⌝ }
+    ensures { λ r. ⌜ Reads (Calls.next w (cursorIs (now (cursor .entry)))) (before heap slots scalars list directory cells) (lentSeen (cursorIs (now (cursor .exit))) r) ⌝ }
 {
     let s = step_lent(heap, slots, scalars, list, directory, cells, w, *cursor);
     *cursor = s.cursor;
@@ -1060,8 +1060,8 @@ pub fn iter_source(
     cells: &[u64],
     w: u64,
 ) -> Reading
-    requires { ⌜ Good (state heap (now slots) (now scalars) (now list) (now directory) (now cells)) ⌝ }
-    ensures { λ r. ⌜ Reads (Calls.iter-source w) (state heap (now (slots .entry)) (now (scalars .entry)) (now (list .entry)) (now (directory .entry)) (now (cells .entry))) (readingIs r) ⌝ }
+    requires { ⌜ Good (lent heap slots scalars list directory cells) ⌝ }
+    ensures { λ r. ⌜ Reads (Calls.iter-source w) (before heap slots scalars list directory cells) (readingIs r) ⌝ }
 {
     word_of(slots, slots, heap.fresh, w, ITERATOR, 2)
 }
@@ -1076,8 +1076,8 @@ pub fn iter_key_type(
     cells: &[u64],
     w: u64,
 ) -> Reading
-    requires { ⌜ Good (state heap (now slots) (now scalars) (now list) (now directory) (now cells)) ⌝ }
-    ensures { λ r. ⌜ Reads (Calls.iter-key-type w) (state heap (now (slots .entry)) (now (scalars .entry)) (now (list .entry)) (now (directory .entry)) (now (cells .entry))) (readingIs r) ⌝ }
+    requires { ⌜ Good (lent heap slots scalars list directory cells) ⌝ }
+    ensures { λ r. ⌜ Reads (Calls.iter-key-type w) (before heap slots scalars list directory cells) (readingIs r) ⌝ }
 {
     word_of(slots, slots, heap.fresh, w, ITERATOR, 3)
 }
@@ -1092,8 +1092,8 @@ pub fn iter_ended(
     cells: &[u64],
     w: u64,
 ) -> Test
-    requires { ⌜ Good (state heap (now slots) (now scalars) (now list) (now directory) (now cells)) ⌝ }
-    ensures { λ r. ⌜ Reads (Calls.iter-ended w) (state heap (now (slots .entry)) (now (scalars .entry)) (now (list .entry)) (now (directory .entry)) (now (cells .entry))) (testIs r) ⌝ }
+    requires { ⌜ Good (lent heap slots scalars list directory cells) ⌝ }
+    ensures { λ r. ⌜ Reads (Calls.iter-ended w) (before heap slots scalars list directory cells) (testIs r) ⌝ }
 {
     match word_of(slots, scalars, heap.fresh, w, ITERATOR, 0) {
         Reading::Refused(q) => Test::Refused(q),
@@ -1111,8 +1111,8 @@ pub fn iter_key(
     cells: &[u64],
     w: u64,
 ) -> Perhaps
-    requires { ⌜ Good (state heap (now slots) (now scalars) (now list) (now directory) (now cells)) ⌝ }
-    ensures { λ r. ⌜ Reads (Calls.iter-key w) (state heap (now (slots .entry)) (now (scalars .entry)) (now (list .entry)) (now (directory .entry)) (now (cells .entry))) (perhapsIs r) ⌝ }
+    requires { ⌜ Good (lent heap slots scalars list directory cells) ⌝ }
+    ensures { λ r. ⌜ Reads (Calls.iter-key w) (before heap slots scalars list directory cells) (perhapsIs r) ⌝ }
 {
     match lookup::locate(slots, heap.fresh, w, ITERATOR) {
         Located::Refused(q) => Perhaps::Refused(q),
@@ -1136,8 +1136,8 @@ pub fn iter_cursor(
     cells: &[u64],
     w: u64,
 ) -> CursorRead
-    requires { ⌜ Good (state heap (now slots) (now scalars) (now list) (now directory) (now cells)) ⌝ }
-    ensures { λ r. ⌜ Reads (Calls.iter-cursor w) (state heap (now (slots .entry)) (now (scalars .entry)) (now (list .entry)) (now (directory .entry)) (now (cells .entry))) (cursorSeen r) ⌝ }
+    requires { ⌜ Good (lent heap slots scalars list directory cells) ⌝ }
+    ensures { λ r. ⌜ Reads (Calls.iter-cursor w) (before heap slots scalars list directory cells) (cursorSeen r) ⌝ }
 {
     match lookup::locate(slots, heap.fresh, w, ITERATOR) {
         Located::Refused(q) => CursorRead::Refused(q),
@@ -1162,8 +1162,8 @@ pub fn pop(
     cells: &[u64],
     w: u64,
 ) -> Reading
-    requires { ⌜ Good (state heap (now slots) (now scalars) (now list) (now directory) (now cells)) ⌝ }
-    ensures { λ r. ⌜ Performs (Calls.pop w) (state heap (now (slots .entry)) (now (scalars .entry)) (now (list .entry)) (now (directory .entry)) (now (cells .entry))) (readingIs r) (state heap (now (slots .exit)) (now (scalars .entry)) (now (list .entry)) (now (directory .entry)) (now (cells .entry))) ⌝ }
+    requires { ⌜ Good (lent heap slots scalars list directory cells) ⌝ }
+    ensures { λ r. ⌜ Performs (Calls.pop w) (before heap slots scalars list directory cells) (readingIs r) (after heap slots scalars list directory cells) ⌝ }
 {
     match lookup::locate(slots, heap.fresh, w, ARRAY) {
         Located::Refused(q) => Reading::Refused(q),
@@ -1205,8 +1205,8 @@ pub fn set_value(
     pos: u64,
     v: u64,
 ) -> Done
-    requires { ⌜ Good (state heap (now slots) (now scalars) (now list) (now directory) (now cells)) ⌝ }
-    ensures { λ r. ⌜ Performs (Calls.set-value w pos v) (state heap (now (slots .entry)) (now (scalars .entry)) (now (list .entry)) (now (directory .entry)) (now (cells .entry))) (doneIs r) (state heap (now (slots .entry)) (now (scalars .entry)) (now (list .entry)) (now (directory .entry)) (now (cells .exit))) ⌝ }
+    requires { ⌜ Good (lent heap slots scalars list directory cells) ⌝ }
+    ensures { λ r. ⌜ Performs (Calls.set-value w pos v) (before heap slots scalars list directory cells) (doneIs r) (after heap slots scalars list directory cells) ⌝ }
 {
     match lookup::locate(slots, heap.fresh, w, MAP) {
         Located::Refused(q) => Done::Refused(q),
@@ -1230,8 +1230,8 @@ pub fn note(
     w: u64,
     k: i64,
 ) -> Done
-    requires { ⌜ Good (state heap (now slots) (now scalars) (now list) (now directory) (now cells)) ⌝ }
-    ensures { λ r. ⌜ Performs (Calls.note w k) (state heap (now (slots .entry)) (now (scalars .entry)) (now (list .entry)) (now (directory .entry)) (now (cells .entry))) (doneIs r) (state heap (now (slots .exit)) (now (scalars .exit)) (now (list .entry)) (now (directory .entry)) (now (cells .entry))) ⌝ }
+    requires { ⌜ Good (lent heap slots scalars list directory cells) ⌝ }
+    ensures { λ r. ⌜ Performs (Calls.note w k) (before heap slots scalars list directory cells) (doneIs r) (after heap slots scalars list directory cells) ⌝ }
 {
     match lookup::locate(slots, heap.fresh, w, MAP) {
         Located::Refused(q) => Done::Refused(q),
@@ -1254,8 +1254,8 @@ pub fn iter_next(
     cells: &[u64],
     w: u64,
 ) -> Perhaps
-    requires { ⌜ Good (state heap (now slots) (now scalars) (now list) (now directory) (now cells)) ⌝ }
-    ensures { λ r. ⌜ Performs (Calls.iter-next w) (state heap (now (slots .entry)) (now (scalars .entry)) (now (list .entry)) (now (directory .entry)) (now (cells .entry))) (perhapsIs r) (state heap (now (slots .entry)) (now (scalars .exit)) (now (list .entry)) (now (directory .entry)) (now (cells .entry))) ⌝ }
+    requires { ⌜ Good (lent heap slots scalars list directory cells) ⌝ }
+    ensures { λ r. ⌜ Performs (Calls.iter-next w) (before heap slots scalars list directory cells) (perhapsIs r) (after heap slots scalars list directory cells) ⌝ }
 {
     match lookup::locate(slots, heap.fresh, w, ITERATOR) {
         Located::Refused(q) => Perhaps::Refused(q),
@@ -1284,8 +1284,8 @@ fn push_change(
     w: u64,
     v: u64,
 ) -> Changed
-    requires { ⌜ Good (state heap (now slots) (now scalars) (now list) (now directory) (now cells)) ⌝ }
-    ensures { λ r. ⌜ Performs (Calls.push w v) (state heap (now (slots .entry)) (now (scalars .entry)) (now (list .entry)) (now (directory .entry)) (now (cells .entry))) (doneIs (r .done)) (state (changedHeap heap r) (now (slots .exit)) (now (scalars .entry)) (now (list .entry)) (now (directory .exit)) (now (cells .exit))) ⌝ }
+    requires { ⌜ Good (lent heap slots scalars list directory cells) ⌝ }
+    ensures { λ r. ⌜ Performs (Calls.push w v) (before heap slots scalars list directory cells) (doneIs (r .done)) (after (changedHeap heap r) slots scalars list directory cells) ⌝ }
 {
     match lookup::locate(slots, heap.fresh, w, ARRAY) {
         Located::Refused(q) => unchanged(heap, Done::Refused(q)),
@@ -1317,8 +1317,8 @@ pub fn push(
     w: u64,
     v: u64,
 ) -> Settled
-    requires { ⌜ Good (state heap (now slots) (now scalars) (now list) (now directory) (now cells)) ⌝ }
-    ensures { λ r. ⌜ Performs (Calls.push w v) (state heap (now (slots .entry)) (now (scalars .entry)) (now (list .entry)) (now (directory .entry)) (now (cells .entry))) (doneIs (r .done)) (state (r .heap) (now (slots .exit)) (now (scalars .entry)) (now (list .entry)) (now (directory .exit)) (now (cells .exit))) ⌝ }
+    requires { ⌜ Good (lent heap slots scalars list directory cells) ⌝ }
+    ensures { λ r. ⌜ Performs (Calls.push w v) (before heap slots scalars list directory cells) (doneIs (r .done)) (after (r .heap) slots scalars list directory cells) ⌝ }
 {
     let c = push_change(heap, slots, scalars, list, directory, cells, w, v);
     settle(heap, c)
@@ -1336,8 +1336,8 @@ fn insert_entry_change(
     key: u64,
     value: u64,
 ) -> Changed
-    requires { ⌜ Good (state heap (now slots) (now scalars) (now list) (now directory) (now cells)) ⌝ }
-    ensures { λ r. ⌜ Performs (Calls.insert-entry w hash key value) (state heap (now (slots .entry)) (now (scalars .entry)) (now (list .entry)) (now (directory .entry)) (now (cells .entry))) (doneIs (r .done)) (state (changedHeap heap r) (now (slots .exit)) (now (scalars .exit)) (now (list .entry)) (now (directory .exit)) (now (cells .exit))) ⌝ }
+    requires { ⌜ Good (lent heap slots scalars list directory cells) ⌝ }
+    ensures { λ r. ⌜ Performs (Calls.insert-entry w hash key value) (before heap slots scalars list directory cells) (doneIs (r .done)) (after (changedHeap heap r) slots scalars list directory cells) ⌝ }
 {
     match lookup::locate(slots, heap.fresh, w, MAP) {
         Located::Refused(q) => unchanged(heap, Done::Refused(q)),
@@ -1369,8 +1369,8 @@ pub fn insert_entry(
     key: u64,
     value: u64,
 ) -> Settled
-    requires { ⌜ Good (state heap (now slots) (now scalars) (now list) (now directory) (now cells)) ⌝ }
-    ensures { λ r. ⌜ Performs (Calls.insert-entry w hash key value) (state heap (now (slots .entry)) (now (scalars .entry)) (now (list .entry)) (now (directory .entry)) (now (cells .entry))) (doneIs (r .done)) (state (r .heap) (now (slots .exit)) (now (scalars .exit)) (now (list .entry)) (now (directory .exit)) (now (cells .exit))) ⌝ }
+    requires { ⌜ Good (lent heap slots scalars list directory cells) ⌝ }
+    ensures { λ r. ⌜ Performs (Calls.insert-entry w hash key value) (before heap slots scalars list directory cells) (doneIs (r .done)) (after (r .heap) slots scalars list directory cells) ⌝ }
 {
     let c = insert_entry_change(
         heap,
@@ -1399,8 +1399,8 @@ fn put_change(
     key: u64,
     value: u64,
 ) -> Changed
-    requires { ⌜ Good (state heap (now slots) (now scalars) (now list) (now directory) (now cells)) ⌝ }
-    ensures { λ r. ⌜ Performs (Calls.put w hash key value) (state heap (now (slots .entry)) (now (scalars .entry)) (now (list .entry)) (now (directory .entry)) (now (cells .entry))) (doneIs (r .done)) (state (changedHeap heap r) (now (slots .exit)) (now (scalars .exit)) (now (list .entry)) (now (directory .exit)) (now (cells .exit))) ⌝ }
+    requires { ⌜ Good (lent heap slots scalars list directory cells) ⌝ }
+    ensures { λ r. ⌜ Performs (Calls.put w hash key value) (before heap slots scalars list directory cells) (doneIs (r .done)) (after (changedHeap heap r) slots scalars list directory cells) ⌝ }
 {
     match lookup::locate(slots, heap.fresh, w, MAP) {
         Located::Refused(q) => unchanged(heap, Done::Refused(q)),
@@ -1448,8 +1448,8 @@ pub fn put(
     key: u64,
     value: u64,
 ) -> Settled
-    requires { ⌜ Good (state heap (now slots) (now scalars) (now list) (now directory) (now cells)) ⌝ }
-    ensures { λ r. ⌜ Performs (Calls.put w hash key value) (state heap (now (slots .entry)) (now (scalars .entry)) (now (list .entry)) (now (directory .entry)) (now (cells .entry))) (doneIs (r .done)) (state (r .heap) (now (slots .exit)) (now (scalars .exit)) (now (list .entry)) (now (directory .exit)) (now (cells .exit))) ⌝ }
+    requires { ⌜ Good (lent heap slots scalars list directory cells) ⌝ }
+    ensures { λ r. ⌜ Performs (Calls.put w hash key value) (before heap slots scalars list directory cells) (doneIs (r .done)) (after (r .heap) slots scalars list directory cells) ⌝ }
 {
     let c = put_change(
         heap,
@@ -1476,8 +1476,8 @@ fn remove_at_change(
     w: u64,
     pos: u64,
 ) -> Changed
-    requires { ⌜ Good (state heap (now slots) (now scalars) (now list) (now directory) (now cells)) ⌝ }
-    ensures { λ r. ⌜ Performs (Calls.remove-at w pos) (state heap (now (slots .entry)) (now (scalars .entry)) (now (list .entry)) (now (directory .entry)) (now (cells .entry))) (doneIs (r .done)) (state (changedHeap heap r) (now (slots .exit)) (now (scalars .exit)) (now (list .entry)) (now (directory .exit)) (now (cells .exit))) ⌝ }
+    requires { ⌜ Good (lent heap slots scalars list directory cells) ⌝ }
+    ensures { λ r. ⌜ Performs (Calls.remove-at w pos) (before heap slots scalars list directory cells) (doneIs (r .done)) (after (changedHeap heap r) slots scalars list directory cells) ⌝ }
 {
     match lookup::locate(slots, heap.fresh, w, MAP) {
         Located::Refused(q) => unchanged(heap, Done::Refused(q)),
@@ -1505,8 +1505,8 @@ pub fn remove_at(
     w: u64,
     pos: u64,
 ) -> Settled
-    requires { ⌜ Good (state heap (now slots) (now scalars) (now list) (now directory) (now cells)) ⌝ }
-    ensures { λ r. ⌜ Performs (Calls.remove-at w pos) (state heap (now (slots .entry)) (now (scalars .entry)) (now (list .entry)) (now (directory .entry)) (now (cells .entry))) (doneIs (r .done)) (state (r .heap) (now (slots .exit)) (now (scalars .exit)) (now (list .entry)) (now (directory .exit)) (now (cells .exit))) ⌝ }
+    requires { ⌜ Good (lent heap slots scalars list directory cells) ⌝ }
+    ensures { λ r. ⌜ Performs (Calls.remove-at w pos) (before heap slots scalars list directory cells) (doneIs (r .done)) (after (r .heap) slots scalars list directory cells) ⌝ }
 {
     let c = remove_at_change(heap, slots, scalars, list, directory, cells, w, pos);
     settle(heap, c)
@@ -1523,8 +1523,8 @@ fn remove_change(
     hash: u64,
     key: u64,
 ) -> Changed
-    requires { ⌜ Good (state heap (now slots) (now scalars) (now list) (now directory) (now cells)) ⌝ }
-    ensures { λ r. ⌜ Performs (Calls.remove w hash key) (state heap (now (slots .entry)) (now (scalars .entry)) (now (list .entry)) (now (directory .entry)) (now (cells .entry))) (doneIs (r .done)) (state (changedHeap heap r) (now (slots .exit)) (now (scalars .exit)) (now (list .entry)) (now (directory .exit)) (now (cells .exit))) ⌝ }
+    requires { ⌜ Good (lent heap slots scalars list directory cells) ⌝ }
+    ensures { λ r. ⌜ Performs (Calls.remove w hash key) (before heap slots scalars list directory cells) (doneIs (r .done)) (after (changedHeap heap r) slots scalars list directory cells) ⌝ }
 {
     match lookup::locate(slots, heap.fresh, w, MAP) {
         Located::Refused(q) => unchanged(heap, Done::Refused(q)),
@@ -1567,8 +1567,8 @@ pub fn remove(
     hash: u64,
     key: u64,
 ) -> Settled
-    requires { ⌜ Good (state heap (now slots) (now scalars) (now list) (now directory) (now cells)) ⌝ }
-    ensures { λ r. ⌜ Performs (Calls.remove w hash key) (state heap (now (slots .entry)) (now (scalars .entry)) (now (list .entry)) (now (directory .entry)) (now (cells .entry))) (doneIs (r .done)) (state (r .heap) (now (slots .exit)) (now (scalars .exit)) (now (list .entry)) (now (directory .exit)) (now (cells .exit))) ⌝ }
+    requires { ⌜ Good (lent heap slots scalars list directory cells) ⌝ }
+    ensures { λ r. ⌜ Performs (Calls.remove w hash key) (before heap slots scalars list directory cells) (doneIs (r .done)) (after (r .heap) slots scalars list directory cells) ⌝ }
 {
     let c = remove_change(heap, slots, scalars, list, directory, cells, w, hash, key);
     settle(heap, c)
@@ -1585,8 +1585,8 @@ pub fn new_map(
     keys: u64,
     values: u64,
 ) -> Made
-    requires { ⌜ Good (state heap (now slots) (now scalars) (now list) (now directory) (now cells)) ⌝ }
-    ensures { λ r. ⌜ Performs (Calls.new-map keys values) (state heap (now (slots .entry)) (now (scalars .entry)) (now (list .entry)) (now (directory .entry)) (now (cells .entry))) (madeIs (r .answer)) (state (r .heap) (now (slots .exit)) (now (scalars .exit)) (now (list .entry)) (now (directory .entry)) (now (cells .entry))) ⌝ }
+    requires { ⌜ Good (lent heap slots scalars list directory cells) ⌝ }
+    ensures { λ r. ⌜ Performs (Calls.new-map keys values) (before heap slots scalars list directory cells) (madeIs (r .answer)) (after (r .heap) slots scalars list directory cells) ⌝ }
 {
     if 2 < keys {
         return Made {
@@ -1636,8 +1636,8 @@ fn begin_iter(
     source: u64,
     keys: u64,
 ) -> Made
-    requires { ⌜ Good (state heap (now slots) (now scalars) (now list) (now directory) (now cells)) ⌝ }
-    ensures { λ r. ⌜ Begins (state heap (now (slots .entry)) (now (scalars .entry)) (now (list .entry)) (now (directory .entry)) (now (cells .entry))) source keys (r .answer) (state (r .heap) (now (slots .exit)) (now (scalars .exit)) (now (list .entry)) (now (directory .entry)) (now (cells .entry))) ⌝ }
+    requires { ⌜ Good (lent heap slots scalars list directory cells) ⌝ }
+    ensures { λ r. ⌜ Begins (before heap slots scalars list directory cells) source keys (r .answer) (after (r .heap) slots scalars list directory cells) ⌝ }
 {
     let weights = heap.weights;
     let h = making::header(ITERATOR, source, keys, 0, 0);
@@ -1674,8 +1674,8 @@ pub fn new_iter(
     cells: &[u64],
     source: u64,
 ) -> Made
-    requires { ⌜ Good (state heap (now slots) (now scalars) (now list) (now directory) (now cells)) ⌝ }
-    ensures { λ r. ⌜ Performs (Calls.new-iter source) (state heap (now (slots .entry)) (now (scalars .entry)) (now (list .entry)) (now (directory .entry)) (now (cells .entry))) (madeIs (r .answer)) (state (r .heap) (now (slots .exit)) (now (scalars .exit)) (now (list .entry)) (now (directory .entry)) (now (cells .entry))) ⌝ }
+    requires { ⌜ Good (lent heap slots scalars list directory cells) ⌝ }
+    ensures { λ r. ⌜ Performs (Calls.new-iter source) (before heap slots scalars list directory cells) (madeIs (r .answer)) (after (r .heap) slots scalars list directory cells) ⌝ }
 {
     match slots::find(slots, heap.fresh, source) {
         Found::Nothing => Made {

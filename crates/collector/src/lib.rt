@@ -5,7 +5,7 @@ ghost use lib.ListN.{length};
 ghost use Rattle.slots.specs.Header.{headerAt, scalarsAt};
 ghost use Rattle.layout.specs.Sections.{Tabled, layoutOf};
 ghost use Rattle.model.specs.Calls as Calls;
-ghost use Rattle.heap.specs.State.{state};
+ghost use Rattle.heap.specs.State.{after, before, lent};
 ghost use Rattle.heap.specs.Good.{Good, Rested, WeightsGood, coroutinesIn};
 ghost use Rattle.heap.specs.Promise.{Does};
 ghost use Rattle.marking.specs.Marks.{Sound};
@@ -240,13 +240,13 @@ pub fn collect(
     roots: &[u64],
     places: &mut [u64],
 ) -> Collected
-    requires { ⌜ Good (state heap (now slots) (now scalars) (now list) (now directory) (now cells)) ⌝ }
+    requires { ⌜ Good (lent heap slots scalars list directory cells) ⌝ }
     requires { ⌜ Tabled (now layout) (now table) ⌝ }
     requires { ⌜ Rested (heap .size) (now marks) (now order) ⌝ }
     ensures { λ r. ⌜ Does (layoutOf (now (layout .entry))) (Calls.collect (now (roots .entry)) (now (places .entry)))
-        (state heap (now (slots .entry)) (now (scalars .entry)) (now (list .entry)) (now (directory .entry)) (now (cells .entry)))
+        (before heap slots scalars list directory cells)
         (collectionIs (r .answer) (now (places .exit)))
-        (state (r .heap) (now (slots .exit)) (now (scalars .exit)) (now (list .exit)) (now (directory .entry)) (now (cells .entry))) ⌝ }
+        (after (r .heap) slots scalars list directory cells) ⌝ }
     ensures { λ r. ⌜ now (marks .exit) ≡ now (marks .entry) ⌝ }
     ensures { λ r. ⌜ now (order .exit) ≡ now (order .entry) ⌝ }
 {

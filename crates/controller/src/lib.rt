@@ -1,7 +1,7 @@
 // The heap as a line controller calls it: every call of a script, by its number.
 ghost use mathlib.Core.Path.{_≡_};
 ghost use Rattle.layout.specs.Sections.{layoutOf};
-ghost use Rattle.heap.specs.State.{state};
+ghost use Rattle.heap.specs.State.{after, before, lent};
 ghost use Rattle.heap.specs.Good.{Ready};
 ghost use Rattle.commands.specs.Commands.{commandCall};
 ghost use Rattle.commands.specs.Lists.{CommandedBy};
@@ -31,9 +31,9 @@ pub fn perform(
     bytes: &mut [u8],
     places: &mut [u64],
 ) -> Turn
-    requires { ⌜ Ready (state heap (now slots) (now scalars) (now list) (now directory) (now cells)) (now marks) (now order) (now layout) (now table) ⌝ }
-    ensures { λ r. ⌜ CommandedBy (layoutOf (now (layout .entry))) code (state heap (now (slots .entry)) (now (scalars .entry)) (now (list .entry)) (now (directory .entry)) (now (cells .entry))) (now (bytes .entry)) (now (places .entry)) (commandCall code o (now (words .entry)) (now (frames .entry)) (now (bytes .entry)) (now (places .entry))) (r .performed) (state (r .heap) (now (slots .exit)) (now (scalars .exit)) (now (list .exit)) (now (directory .exit)) (now (cells .exit))) (now (bytes .exit)) (now (places .exit)) ⌝ }
-    ensures { λ r. ⌜ Ready (state (r .heap) (now (slots .exit)) (now (scalars .exit)) (now (list .exit)) (now (directory .exit)) (now (cells .exit))) (now (marks .exit)) (now (order .exit)) (now (layout .entry)) (now (table .entry)) ⌝ }
+    requires { ⌜ Ready (lent heap slots scalars list directory cells) (now marks) (now order) (now layout) (now table) ⌝ }
+    ensures { λ r. ⌜ CommandedBy (layoutOf (now (layout .entry))) code (before heap slots scalars list directory cells) (now (bytes .entry)) (now (places .entry)) (commandCall code o (now (words .entry)) (now (frames .entry)) (now (bytes .entry)) (now (places .entry))) (r .performed) (after (r .heap) slots scalars list directory cells) (now (bytes .exit)) (now (places .exit)) ⌝ }
+    ensures { λ r. ⌜ Ready (after (r .heap) slots scalars list directory cells) (now (marks .exit)) (now (order .exit)) (now (layout .entry)) (now (table .entry)) ⌝ }
     ensures { λ r. ⌜ now (marks .exit) ≡ now (marks .entry) ⌝ }
     ensures { λ r. ⌜ now (order .exit) ≡ now (order .entry) ⌝ }
 {

@@ -5,6 +5,8 @@ use mathlib.Core.List.{List}
 use mathlib.Core.Option.{none}
 use lib.Dec.{leb, ltb}
 use lib.ListN.{length}
+use denote.Ref.{RefT}
+use denote.Triple.Both.{Both}
 use Rattle.slots.specs.Header.{scalarsAt}
 use Rattle.slots.specs.FreeList.{freeList}
 use Rattle.slots.specs.declared.Scalars.{Scalars}
@@ -25,8 +27,26 @@ pub record State : Type 0 where
   pub directory : List ℕ
   pub cells : List ℕ
 
+-- a buffer as a call is lent it
+abbrev pub Lent : Type 0
+Lent = RefT (List ℕ)
+
+-- and at both ends of the call
+abbrev pub Pair : Type 0
+Pair = Both Lent Lent
+
 abbrev pub state : Heap → List ℕ → List ℕ → List ℕ → List ℕ → List ℕ → State
 state h s x f d c = record { heap = h; slots = s; scalars = x; list = f; directory = d; cells = c }
+
+-- the state that a call is lent: in a requires, and in an ensures before and after the call
+abbrev pub lent : Heap → Lent → Lent → Lent → Lent → Lent → State
+lent h s x f d c = state h (s .now) (x .now) (f .now) (d .now) (c .now)
+
+abbrev pub before : Heap → Pair → Pair → Pair → Pair → Pair → State
+before h s x f d c = lent h (s .entry) (x .entry) (f .entry) (d .entry) (c .entry)
+
+abbrev pub after : Heap → Pair → Pair → Pair → Pair → Pair → State
+after h s x f d c = lent h (s .exit) (x .exit) (f .exit) (d .exit) (c .exit)
 
 abbrev pub rawOf : State → ℕ → Raw
 rawOf t i = rawAt (t .slots) (t .cells) i

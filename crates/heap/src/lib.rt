@@ -11,7 +11,7 @@ ghost use lib.ListN.{length};
 ghost use Rattle.model.specs.Calls as Calls;
 ghost use Rattle.model.specs.Replies.{nothing, number, truth};
 ghost use Rattle.heap.specs.Answers.{answered, doneIs, kindNumber, numberOf};
-ghost use Rattle.heap.specs.State.{state};
+ghost use Rattle.heap.specs.State.{before, lent};
 ghost use Rattle.heap.specs.Good.{Good};
 ghost use Rattle.model.specs.Opening.{between, sizesFit};
 ghost use Rattle.heap.specs.Opens.{Opens, beside, newHeap, openingOf, roomFor, weightsFit};
@@ -149,8 +149,8 @@ pub fn get(
     cells: &[u64],
     w: u64,
 ) -> u64
-    requires { ⌜ Good (state heap (now slots) (now scalars) (now list) (now directory) (now cells)) ⌝ }
-    ensures { λ r. ⌜ Reads (Calls.get w) (state heap (now (slots .entry)) (now (scalars .entry)) (now (list .entry)) (now (directory .entry)) (now (cells .entry))) (answered (number r)) ⌝ }
+    requires { ⌜ Good (lent heap slots scalars list directory cells) ⌝ }
+    ensures { λ r. ⌜ Reads (Calls.get w) (before heap slots scalars list directory cells) (answered (number r)) ⌝ }
 {
     lookup::row_at(slots, heap.fresh, w)
 }
@@ -165,8 +165,8 @@ pub fn deref(
     cells: &[u64],
     w: u64,
 ) -> u64
-    requires { ⌜ Good (state heap (now slots) (now scalars) (now list) (now directory) (now cells)) ⌝ }
-    ensures { λ r. ⌜ Reads (Calls.deref-word w) (state heap (now (slots .entry)) (now (scalars .entry)) (now (list .entry)) (now (directory .entry)) (now (cells .entry))) (answered (number r)) ⌝ }
+    requires { ⌜ Good (lent heap slots scalars list directory cells) ⌝ }
+    ensures { λ r. ⌜ Reads (Calls.deref-word w) (before heap slots scalars list directory cells) (answered (number r)) ⌝ }
 {
     if !words::is_box(w) {
         return w;
@@ -211,8 +211,8 @@ pub fn kind_of(
     cells: &[u64],
     w: u64,
 ) -> Kind
-    requires { ⌜ Good (state heap (now slots) (now scalars) (now list) (now directory) (now cells)) ⌝ }
-    ensures { λ r. ⌜ Reads (Calls.kind-of w) (state heap (now (slots .entry)) (now (scalars .entry)) (now (list .entry)) (now (directory .entry)) (now (cells .entry))) (answered (number (kindNumber r))) ⌝ }
+    requires { ⌜ Good (lent heap slots scalars list directory cells) ⌝ }
+    ensures { λ r. ⌜ Reads (Calls.kind-of w) (before heap slots scalars list directory cells) (answered (number (kindNumber r))) ⌝ }
 {
     match words::decode(w) {
         Raw::Nil => Kind::Nil,
@@ -234,8 +234,8 @@ pub fn charge(
     cells: &[u64],
     bytes: u64,
 ) -> Settled
-    requires { ⌜ Good (state heap (now slots) (now scalars) (now list) (now directory) (now cells)) ⌝ }
-    ensures { λ r. ⌜ Performs (Calls.charge bytes) (state heap (now (slots .entry)) (now (scalars .entry)) (now (list .entry)) (now (directory .entry)) (now (cells .entry))) (doneIs (r .done)) (state (r .heap) (now (slots .entry)) (now (scalars .entry)) (now (list .entry)) (now (directory .entry)) (now (cells .entry))) ⌝ }
+    requires { ⌜ Good (lent heap slots scalars list directory cells) ⌝ }
+    ensures { λ r. ⌜ Performs (Calls.charge bytes) (before heap slots scalars list directory cells) (doneIs (r .done)) (before (r .heap) slots scalars list directory cells) ⌝ }
 {
     let account = heap.account;
     match account.charge(bytes) {
@@ -264,8 +264,8 @@ pub fn fits(
     cells: &[u64],
     bytes: u64,
 ) -> bool
-    requires { ⌜ Good (state heap (now slots) (now scalars) (now list) (now directory) (now cells)) ⌝ }
-    ensures { λ r. ⌜ Reads (Calls.fits-bytes bytes) (state heap (now (slots .entry)) (now (scalars .entry)) (now (list .entry)) (now (directory .entry)) (now (cells .entry))) (answered (truth r)) ⌝ }
+    requires { ⌜ Good (lent heap slots scalars list directory cells) ⌝ }
+    ensures { λ r. ⌜ Reads (Calls.fits-bytes bytes) (before heap slots scalars list directory cells) (answered (truth r)) ⌝ }
 {
     let account = heap.account;
     account.allows(bytes)
@@ -281,8 +281,8 @@ pub fn wants_gc(
     cells: &[u64],
     extra: u64,
 ) -> bool
-    requires { ⌜ Good (state heap (now slots) (now scalars) (now list) (now directory) (now cells)) ⌝ }
-    ensures { λ r. ⌜ Reads (Calls.wants-gc extra) (state heap (now (slots .entry)) (now (scalars .entry)) (now (list .entry)) (now (directory .entry)) (now (cells .entry))) (answered (truth r)) ⌝ }
+    requires { ⌜ Good (lent heap slots scalars list directory cells) ⌝ }
+    ensures { λ r. ⌜ Reads (Calls.wants-gc extra) (before heap slots scalars list directory cells) (answered (truth r)) ⌝ }
 {
     let account = heap.account;
     account.wants_gc(extra)
@@ -297,8 +297,8 @@ pub fn collection_count(
     directory: &[u64],
     cells: &[u64],
 ) -> u64
-    requires { ⌜ Good (state heap (now slots) (now scalars) (now list) (now directory) (now cells)) ⌝ }
-    ensures { λ r. ⌜ Reads Calls.collection-count (state heap (now (slots .entry)) (now (scalars .entry)) (now (list .entry)) (now (directory .entry)) (now (cells .entry))) (answered (number r)) ⌝ }
+    requires { ⌜ Good (lent heap slots scalars list directory cells) ⌝ }
+    ensures { λ r. ⌜ Reads Calls.collection-count (before heap slots scalars list directory cells) (answered (number r)) ⌝ }
 {
     heap.collections
 }
@@ -312,8 +312,8 @@ pub fn freed_count(
     directory: &[u64],
     cells: &[u64],
 ) -> u64
-    requires { ⌜ Good (state heap (now slots) (now scalars) (now list) (now directory) (now cells)) ⌝ }
-    ensures { λ r. ⌜ Reads Calls.freed-count (state heap (now (slots .entry)) (now (scalars .entry)) (now (list .entry)) (now (directory .entry)) (now (cells .entry))) (answered (number r)) ⌝ }
+    requires { ⌜ Good (lent heap slots scalars list directory cells) ⌝ }
+    ensures { λ r. ⌜ Reads Calls.freed-count (before heap slots scalars list directory cells) (answered (number r)) ⌝ }
 {
     heap.freed
 }
@@ -327,8 +327,8 @@ pub fn used_bytes(
     directory: &[u64],
     cells: &[u64],
 ) -> u64
-    requires { ⌜ Good (state heap (now slots) (now scalars) (now list) (now directory) (now cells)) ⌝ }
-    ensures { λ r. ⌜ Reads Calls.used-bytes (state heap (now (slots .entry)) (now (scalars .entry)) (now (list .entry)) (now (directory .entry)) (now (cells .entry))) (answered (number r)) ⌝ }
+    requires { ⌜ Good (lent heap slots scalars list directory cells) ⌝ }
+    ensures { λ r. ⌜ Reads Calls.used-bytes (before heap slots scalars list directory cells) (answered (number r)) ⌝ }
 {
     let account = heap.account;
     account.used
@@ -343,8 +343,8 @@ pub fn present_count(
     directory: &[u64],
     cells: &[u64],
 ) -> u64
-    requires { ⌜ Good (state heap (now slots) (now scalars) (now list) (now directory) (now cells)) ⌝ }
-    ensures { λ r. ⌜ Reads Calls.present-count (state heap (now (slots .entry)) (now (scalars .entry)) (now (list .entry)) (now (directory .entry)) (now (cells .entry))) (answered (number r)) ⌝ }
+    requires { ⌜ Good (lent heap slots scalars list directory cells) ⌝ }
+    ensures { λ r. ⌜ Reads Calls.present-count (before heap slots scalars list directory cells) (answered (number r)) ⌝ }
 {
     heap.present
 }
@@ -358,8 +358,8 @@ pub fn cells_in_use(
     directory: &[u64],
     cells: &[u64],
 ) -> u64
-    requires { ⌜ Good (state heap (now slots) (now scalars) (now list) (now directory) (now cells)) ⌝ }
-    ensures { λ r. ⌜ Reads Calls.cells-in-use (state heap (now (slots .entry)) (now (scalars .entry)) (now (list .entry)) (now (directory .entry)) (now (cells .entry))) (answered (number r)) ⌝ }
+    requires { ⌜ Good (lent heap slots scalars list directory cells) ⌝ }
+    ensures { λ r. ⌜ Reads Calls.cells-in-use (before heap slots scalars list directory cells) (answered (number r)) ⌝ }
 {
     heap.taken
 }
@@ -476,7 +476,7 @@ pub fn open(
     directory: &[u64],
     cells: &[u64],
 ) -> Opened
-    ensures { λ r. ⌜ Opens (openingOf size (length (now (cells .entry))) limit weights (now (layout .entry))) (state (newHeap size limit weights) (now (slots .entry)) (now (scalars .entry)) (now (list .entry)) (now (directory .entry)) (now (cells .entry))) (beside (now (table .entry)) (now (marks .entry)) (now (order .entry))) r (beside (now (table .exit)) (now (marks .exit)) (now (order .exit))) ⌝ }
+    ensures { λ r. ⌜ Opens (openingOf size (length (now (cells .entry))) limit weights (now (layout .entry))) (before (newHeap size limit weights) slots scalars list directory cells) (beside (now (table .entry)) (now (marks .entry)) (now (order .entry))) r (beside (now (table .exit)) (now (marks .exit)) (now (order .exit))) ⌝ }
 {
     if !sizes_fit(size, cells.len(), weights) {
         return Opened::Refused(Refusal::BadOpening);

@@ -4,7 +4,7 @@ ghost use Prim.Native.Nat.{_+_, _*_, _≤_, _<_};
 ghost use lib.ListN.{length};
 ghost use Rattle.slots.specs.FreeList.{takenSlot};
 ghost use Rattle.heap.specs.declared.Done.the-variants.{Accepted};
-ghost use Rattle.heap.specs.State.{state};
+ghost use Rattle.heap.specs.State.{after, before, lent};
 ghost use Rattle.heap.specs.Good.{Good, coroutineOf};
 ghost use Rattle.heap.specs.Placing.{PlacesPlain, PlacesRegion, PlainObject, RegionObject, Roomy, Seatable, Seats, flagOf, judgedNew};
 use crate::BOX;
@@ -107,8 +107,8 @@ pub fn place_plain(
     header: Header,
     bytes: u64,
 ) -> Made
-    requires { ⌜ Good (state heap (now slots) (now scalars) (now list) (now directory) (now cells)) × (judgedNew heap (length (now cells)) bytes 0 ≡ Accepted) × PlainObject (state heap (now slots) (now scalars) (now list) (now directory) (now cells)) header ⌝ }
-    ensures { λ r. ⌜ PlacesPlain (state heap (now (slots .entry)) (now (scalars .entry)) (now (list .entry)) (now (directory .entry)) (now (cells .entry))) header bytes (r .answer) (state (r .heap) (now (slots .exit)) (now (scalars .entry)) (now (list .entry)) (now (directory .entry)) (now (cells .entry))) ⌝ }
+    requires { ⌜ Good (lent heap slots scalars list directory cells) × (judgedNew heap (length (now cells)) bytes 0 ≡ Accepted) × PlainObject (lent heap slots scalars list directory cells) header ⌝ }
+    ensures { λ r. ⌜ PlacesPlain (before heap slots scalars list directory cells) header bytes (r .answer) (after (r .heap) slots scalars list directory cells) ⌝ }
 {
     let mut new = header;
     new.size = 0;
@@ -129,8 +129,8 @@ pub fn place_region(
     header: Header,
     bytes: u64,
 ) -> Made
-    requires { ⌜ Good (state heap (now slots) (now scalars) (now list) (now directory) (now cells)) × (judgedNew heap (length (now cells)) bytes (header .size) ≡ Accepted) × (heap .top + header .size ≤ length (now cells)) × (heap .entries < heap .size * 2) × RegionObject (state heap (now slots) (now scalars) (now list) (now directory) (now cells)) header ⌝ }
-    ensures { λ r. ⌜ PlacesRegion (state heap (now (slots .entry)) (now (scalars .entry)) (now (list .entry)) (now (directory .entry)) (now (cells .entry))) header bytes (r .answer) (state (r .heap) (now (slots .exit)) (now (scalars .entry)) (now (list .entry)) (now (directory .exit)) (now (cells .entry))) ⌝ }
+    requires { ⌜ Good (lent heap slots scalars list directory cells) × (judgedNew heap (length (now cells)) bytes (header .size) ≡ Accepted) × (heap .top + header .size ≤ length (now cells)) × (heap .entries < heap .size * 2) × RegionObject (lent heap slots scalars list directory cells) header ⌝ }
+    ensures { λ r. ⌜ PlacesRegion (before heap slots scalars list directory cells) header bytes (r .answer) (after (r .heap) slots scalars list directory cells) ⌝ }
 {
     let at = heap.entries as usize;
     directory[at] = next_slot(list, heap.fresh, heap.free);
@@ -155,8 +155,8 @@ pub fn make_room(
     cells: &mut [u64],
     size: u64,
 ) -> Heap
-    requires { ⌜ Good (state heap (now slots) (now scalars) (now list) (now directory) (now cells)) × (heap .taken + size ≤ length (now cells)) ⌝ }
-    ensures { λ r. ⌜ Roomy (state heap (now (slots .entry)) (now (scalars .entry)) (now (list .entry)) (now (directory .entry)) (now (cells .entry))) (state r (now (slots .exit)) (now (scalars .entry)) (now (list .entry)) (now (directory .exit)) (now (cells .exit))) size ⌝ }
+    requires { ⌜ Good (lent heap slots scalars list directory cells) × (heap .taken + size ≤ length (now cells)) ⌝ }
+    ensures { λ r. ⌜ Roomy (before heap slots scalars list directory cells) (after r slots scalars list directory cells) size ⌝ }
 {
     let before = Top {
         cells: heap.top,

@@ -7,7 +7,7 @@ ghost use mathlib.Core.Path.{_≡_};
 ghost use lib.ListN.{length};
 ghost use Rattle.layout.specs.Sections.{Tabled, layoutOf};
 ghost use Rattle.model.specs.Calls as Calls;
-ghost use Rattle.heap.specs.State.{state};
+ghost use Rattle.heap.specs.State.{after, before, lent, state};
 ghost use Rattle.heap.specs.Good.{Good, Rested};
 ghost use Rattle.heap.specs.Opens.{beside, newHeap, openingOf};
 ghost use Rattle.record.specs.Record.{OpensWords, loaded, weightsIn};
@@ -55,8 +55,8 @@ pub extern "C" fn heap_bench_read_box(
     cells: &[u64],
     words: &[u64],
 ) -> u64
-    requires { ⌜ Good (state (loaded (now heap)) (now slots) (now scalars) (now list) (now directory) (now cells)) ⌝ }
-    ensures { λ r. ⌜ Summed (boxReads (now (words .entry))) (length (now (words .entry))) (state (loaded (now (heap .entry))) (now (slots .entry)) (now (scalars .entry)) (now (list .entry)) (now (directory .entry)) (now (cells .entry))) r ⌝ }
+    requires { ⌜ Good (lent (loaded (now heap)) slots scalars list directory cells) ⌝ }
+    ensures { λ r. ⌜ Summed (boxReads (now (words .entry))) (length (now (words .entry))) (before (loaded (now (heap .entry))) slots scalars list directory cells) r ⌝ }
 {
     let h = record::load(heap);
     let mut i: usize = 0;
@@ -82,9 +82,9 @@ pub extern "C" fn heap_bench_store_box(
     words: &[u64],
     values: &[u64],
 )
-    requires { ⌜ Good (state (loaded (now heap)) (now slots) (now scalars) (now list) (now directory) (now cells)) ⌝ }
+    requires { ⌜ Good (lent (loaded (now heap)) slots scalars list directory cells) ⌝ }
     requires { ⌜ length (now values) ≡ length (now words) ⌝ }
-    ensures { λ _. ⌜ Ran (boxStores (now (words .entry)) (now (values .entry))) (length (now (words .entry))) (state (loaded (now (heap .entry))) (now (slots .entry)) (now (scalars .entry)) (now (list .entry)) (now (directory .entry)) (now (cells .entry))) (state (loaded (now (heap .entry))) (now (slots .exit)) (now (scalars .entry)) (now (list .entry)) (now (directory .entry)) (now (cells .entry))) ⌝ }
+    ensures { λ _. ⌜ Ran (boxStores (now (words .entry)) (now (values .entry))) (length (now (words .entry))) (before (loaded (now (heap .entry))) slots scalars list directory cells) (after (loaded (now (heap .entry))) slots scalars list directory cells) ⌝ }
 {
     let h = record::load(heap);
     let mut i: usize = 0;
@@ -108,9 +108,9 @@ pub extern "C" fn heap_bench_read_item(
     words: &[u64],
     positions: &[u64],
 ) -> u64
-    requires { ⌜ Good (state (loaded (now heap)) (now slots) (now scalars) (now list) (now directory) (now cells)) ⌝ }
+    requires { ⌜ Good (lent (loaded (now heap)) slots scalars list directory cells) ⌝ }
     requires { ⌜ length (now positions) ≡ length (now words) ⌝ }
-    ensures { λ r. ⌜ Summed (itemReads (now (words .entry)) (now (positions .entry))) (length (now (words .entry))) (state (loaded (now (heap .entry))) (now (slots .entry)) (now (scalars .entry)) (now (list .entry)) (now (directory .entry)) (now (cells .entry))) r ⌝ }
+    ensures { λ r. ⌜ Summed (itemReads (now (words .entry)) (now (positions .entry))) (length (now (words .entry))) (before (loaded (now (heap .entry))) slots scalars list directory cells) r ⌝ }
 {
     let h = record::load(heap);
     let mut i: usize = 0;
@@ -138,9 +138,9 @@ pub extern "C" fn heap_bench_store_item(
     positions: &[u64],
     v: u64,
 )
-    requires { ⌜ Good (state (loaded (now heap)) (now slots) (now scalars) (now list) (now directory) (now cells)) ⌝ }
+    requires { ⌜ Good (lent (loaded (now heap)) slots scalars list directory cells) ⌝ }
     requires { ⌜ length (now positions) ≡ length (now words) ⌝ }
-    ensures { λ _. ⌜ Ran (itemStores (now (words .entry)) (now (positions .entry)) v) (length (now (words .entry))) (state (loaded (now (heap .entry))) (now (slots .entry)) (now (scalars .entry)) (now (list .entry)) (now (directory .entry)) (now (cells .entry))) (state (loaded (now (heap .entry))) (now (slots .entry)) (now (scalars .entry)) (now (list .entry)) (now (directory .entry)) (now (cells .exit))) ⌝ }
+    ensures { λ _. ⌜ Ran (itemStores (now (words .entry)) (now (positions .entry)) v) (length (now (words .entry))) (before (loaded (now (heap .entry))) slots scalars list directory cells) (after (loaded (now (heap .entry))) slots scalars list directory cells) ⌝ }
 {
     let h = record::load(heap);
     let mut i: usize = 0;
@@ -164,9 +164,9 @@ pub extern "C" fn heap_bench_new_box(
     w: u64,
     out: &mut [u64],
 )
-    requires { ⌜ Good (state (loaded (now heap)) (now slots) (now scalars) (now list) (now directory) (now cells)) ⌝ }
-    ensures { λ _. ⌜ Ran (boxes w) (length (now (out .entry))) (state (loaded (now (heap .entry))) (now (slots .entry)) (now (scalars .entry)) (now (list .entry)) (now (directory .entry)) (now (cells .entry))) (state (loaded (now (heap .exit))) (now (slots .exit)) (now (scalars .entry)) (now (list .entry)) (now (directory .entry)) (now (cells .entry))) ⌝ }
-    ensures { λ _. ⌜ Filled (boxes w) (state (loaded (now (heap .entry))) (now (slots .entry)) (now (scalars .entry)) (now (list .entry)) (now (directory .entry)) (now (cells .entry))) (now (out .exit)) ⌝ }
+    requires { ⌜ Good (lent (loaded (now heap)) slots scalars list directory cells) ⌝ }
+    ensures { λ _. ⌜ Ran (boxes w) (length (now (out .entry))) (before (loaded (now (heap .entry))) slots scalars list directory cells) (after (loaded (now (heap .exit))) slots scalars list directory cells) ⌝ }
+    ensures { λ _. ⌜ Filled (boxes w) (before (loaded (now (heap .entry))) slots scalars list directory cells) (now (out .exit)) ⌝ }
 {
     let mut h = record::load(heap);
     let mut i: usize = 0;
@@ -193,9 +193,9 @@ pub extern "C" fn heap_bench_new_array(
     size: i64,
     out: &mut [u64],
 )
-    requires { ⌜ Good (state (loaded (now heap)) (now slots) (now scalars) (now list) (now directory) (now cells)) ⌝ }
-    ensures { λ _. ⌜ Ran (arrays t size) (length (now (out .entry))) (state (loaded (now (heap .entry))) (now (slots .entry)) (now (scalars .entry)) (now (list .entry)) (now (directory .entry)) (now (cells .entry))) (state (loaded (now (heap .exit))) (now (slots .exit)) (now (scalars .entry)) (now (list .entry)) (now (directory .exit)) (now (cells .exit))) ⌝ }
-    ensures { λ _. ⌜ Filled (arrays t size) (state (loaded (now (heap .entry))) (now (slots .entry)) (now (scalars .entry)) (now (list .entry)) (now (directory .entry)) (now (cells .entry))) (now (out .exit)) ⌝ }
+    requires { ⌜ Good (lent (loaded (now heap)) slots scalars list directory cells) ⌝ }
+    ensures { λ _. ⌜ Ran (arrays t size) (length (now (out .entry))) (before (loaded (now (heap .entry))) slots scalars list directory cells) (after (loaded (now (heap .exit))) slots scalars list directory cells) ⌝ }
+    ensures { λ _. ⌜ Filled (arrays t size) (before (loaded (now (heap .entry))) slots scalars list directory cells) (now (out .exit)) ⌝ }
 {
     let mut h = record::load(heap);
     let mut i: usize = 0;
@@ -220,9 +220,9 @@ pub extern "C" fn heap_bench_new_map(
     cells: &[u64],
     out: &mut [u64],
 )
-    requires { ⌜ Good (state (loaded (now heap)) (now slots) (now scalars) (now list) (now directory) (now cells)) ⌝ }
-    ensures { λ _. ⌜ Ran (maps) (length (now (out .entry))) (state (loaded (now (heap .entry))) (now (slots .entry)) (now (scalars .entry)) (now (list .entry)) (now (directory .entry)) (now (cells .entry))) (state (loaded (now (heap .exit))) (now (slots .exit)) (now (scalars .exit)) (now (list .entry)) (now (directory .entry)) (now (cells .entry))) ⌝ }
-    ensures { λ _. ⌜ Filled (maps) (state (loaded (now (heap .entry))) (now (slots .entry)) (now (scalars .entry)) (now (list .entry)) (now (directory .entry)) (now (cells .entry))) (now (out .exit)) ⌝ }
+    requires { ⌜ Good (lent (loaded (now heap)) slots scalars list directory cells) ⌝ }
+    ensures { λ _. ⌜ Ran (maps) (length (now (out .entry))) (before (loaded (now (heap .entry))) slots scalars list directory cells) (after (loaded (now (heap .exit))) slots scalars list directory cells) ⌝ }
+    ensures { λ _. ⌜ Filled (maps) (before (loaded (now (heap .entry))) slots scalars list directory cells) (now (out .exit)) ⌝ }
 {
     let mut h = record::load(heap);
     let mut i: usize = 0;
@@ -248,9 +248,9 @@ pub extern "C" fn heap_bench_new_iter(
     source: u64,
     out: &mut [u64],
 )
-    requires { ⌜ Good (state (loaded (now heap)) (now slots) (now scalars) (now list) (now directory) (now cells)) ⌝ }
-    ensures { λ _. ⌜ Ran (iterators source) (length (now (out .entry))) (state (loaded (now (heap .entry))) (now (slots .entry)) (now (scalars .entry)) (now (list .entry)) (now (directory .entry)) (now (cells .entry))) (state (loaded (now (heap .exit))) (now (slots .exit)) (now (scalars .exit)) (now (list .entry)) (now (directory .entry)) (now (cells .entry))) ⌝ }
-    ensures { λ _. ⌜ Filled (iterators source) (state (loaded (now (heap .entry))) (now (slots .entry)) (now (scalars .entry)) (now (list .entry)) (now (directory .entry)) (now (cells .entry))) (now (out .exit)) ⌝ }
+    requires { ⌜ Good (lent (loaded (now heap)) slots scalars list directory cells) ⌝ }
+    ensures { λ _. ⌜ Ran (iterators source) (length (now (out .entry))) (before (loaded (now (heap .entry))) slots scalars list directory cells) (after (loaded (now (heap .exit))) slots scalars list directory cells) ⌝ }
+    ensures { λ _. ⌜ Filled (iterators source) (before (loaded (now (heap .entry))) slots scalars list directory cells) (now (out .exit)) ⌝ }
 {
     let mut h = record::load(heap);
     let mut i: usize = 0;
@@ -276,8 +276,8 @@ pub extern "C" fn heap_bench_push(
     w: u64,
     values: &[u64],
 )
-    requires { ⌜ Good (state (loaded (now heap)) (now slots) (now scalars) (now list) (now directory) (now cells)) ⌝ }
-    ensures { λ _. ⌜ Ran (pushes w (now (values .entry))) (length (now (values .entry))) (state (loaded (now (heap .entry))) (now (slots .entry)) (now (scalars .entry)) (now (list .entry)) (now (directory .entry)) (now (cells .entry))) (state (loaded (now (heap .exit))) (now (slots .exit)) (now (scalars .entry)) (now (list .entry)) (now (directory .exit)) (now (cells .exit))) ⌝ }
+    requires { ⌜ Good (lent (loaded (now heap)) slots scalars list directory cells) ⌝ }
+    ensures { λ _. ⌜ Ran (pushes w (now (values .entry))) (length (now (values .entry))) (before (loaded (now (heap .entry))) slots scalars list directory cells) (after (loaded (now (heap .exit))) slots scalars list directory cells) ⌝ }
 {
     let mut h = record::load(heap);
     let mut i: usize = 0;
@@ -302,9 +302,9 @@ pub extern "C" fn heap_bench_pop(
     w: u64,
     n: usize,
 ) -> u64
-    requires { ⌜ Good (state (loaded (now heap)) (now slots) (now scalars) (now list) (now directory) (now cells)) ⌝ }
-    ensures { λ _. ⌜ Ran (pops w) n (state (loaded (now (heap .entry))) (now (slots .entry)) (now (scalars .entry)) (now (list .entry)) (now (directory .entry)) (now (cells .entry))) (state (loaded (now (heap .entry))) (now (slots .exit)) (now (scalars .entry)) (now (list .entry)) (now (directory .entry)) (now (cells .entry))) ⌝ }
-    ensures { λ r. ⌜ Summed (pops w) n (state (loaded (now (heap .entry))) (now (slots .entry)) (now (scalars .entry)) (now (list .entry)) (now (directory .entry)) (now (cells .entry))) r ⌝ }
+    requires { ⌜ Good (lent (loaded (now heap)) slots scalars list directory cells) ⌝ }
+    ensures { λ _. ⌜ Ran (pops w) n (before (loaded (now (heap .entry))) slots scalars list directory cells) (after (loaded (now (heap .entry))) slots scalars list directory cells) ⌝ }
+    ensures { λ r. ⌜ Summed (pops w) n (before (loaded (now (heap .entry))) slots scalars list directory cells) r ⌝ }
 {
     let h = record::load(heap);
     let mut i: usize = 0;
@@ -330,9 +330,9 @@ pub extern "C" fn heap_bench_put(
     hashes: &[u64],
     keys: &[u64],
 )
-    requires { ⌜ Good (state (loaded (now heap)) (now slots) (now scalars) (now list) (now directory) (now cells)) ⌝ }
+    requires { ⌜ Good (lent (loaded (now heap)) slots scalars list directory cells) ⌝ }
     requires { ⌜ length (now hashes) ≡ length (now keys) ⌝ }
-    ensures { λ _. ⌜ Ran (puts w (now (hashes .entry)) (now (keys .entry))) (length (now (keys .entry))) (state (loaded (now (heap .entry))) (now (slots .entry)) (now (scalars .entry)) (now (list .entry)) (now (directory .entry)) (now (cells .entry))) (state (loaded (now (heap .exit))) (now (slots .exit)) (now (scalars .exit)) (now (list .entry)) (now (directory .exit)) (now (cells .exit))) ⌝ }
+    ensures { λ _. ⌜ Ran (puts w (now (hashes .entry)) (now (keys .entry))) (length (now (keys .entry))) (before (loaded (now (heap .entry))) slots scalars list directory cells) (after (loaded (now (heap .exit))) slots scalars list directory cells) ⌝ }
 {
     let mut h = record::load(heap);
     let mut i: usize = 0;
@@ -359,9 +359,9 @@ pub extern "C" fn heap_bench_find(
     hashes: &[u64],
     keys: &[u64],
 ) -> u64
-    requires { ⌜ Good (state (loaded (now heap)) (now slots) (now scalars) (now list) (now directory) (now cells)) ⌝ }
+    requires { ⌜ Good (lent (loaded (now heap)) slots scalars list directory cells) ⌝ }
     requires { ⌜ length (now hashes) ≡ length (now keys) ⌝ }
-    ensures { λ r. ⌜ Summed (finds w (now (hashes .entry)) (now (keys .entry))) (length (now (keys .entry))) (state (loaded (now (heap .entry))) (now (slots .entry)) (now (scalars .entry)) (now (list .entry)) (now (directory .entry)) (now (cells .entry))) r ⌝ }
+    ensures { λ r. ⌜ Summed (finds w (now (hashes .entry)) (now (keys .entry))) (length (now (keys .entry))) (before (loaded (now (heap .entry))) slots scalars list directory cells) r ⌝ }
 {
     let h = record::load(heap);
     let mut i: usize = 0;
@@ -389,9 +389,9 @@ pub extern "C" fn heap_bench_remove(
     hashes: &[u64],
     keys: &[u64],
 )
-    requires { ⌜ Good (state (loaded (now heap)) (now slots) (now scalars) (now list) (now directory) (now cells)) ⌝ }
+    requires { ⌜ Good (lent (loaded (now heap)) slots scalars list directory cells) ⌝ }
     requires { ⌜ length (now hashes) ≡ length (now keys) ⌝ }
-    ensures { λ _. ⌜ Ran (removals w (now (hashes .entry)) (now (keys .entry))) (length (now (keys .entry))) (state (loaded (now (heap .entry))) (now (slots .entry)) (now (scalars .entry)) (now (list .entry)) (now (directory .entry)) (now (cells .entry))) (state (loaded (now (heap .exit))) (now (slots .exit)) (now (scalars .exit)) (now (list .entry)) (now (directory .exit)) (now (cells .exit))) ⌝ }
+    ensures { λ _. ⌜ Ran (removals w (now (hashes .entry)) (now (keys .entry))) (length (now (keys .entry))) (before (loaded (now (heap .entry))) slots scalars list directory cells) (after (loaded (now (heap .exit))) slots scalars list directory cells) ⌝ }
 {
     let mut h = record::load(heap);
     let mut i: usize = 0;
@@ -417,9 +417,9 @@ pub extern "C" fn heap_bench_iter_next(
     w: u64,
     n: usize,
 ) -> u64
-    requires { ⌜ Good (state (loaded (now heap)) (now slots) (now scalars) (now list) (now directory) (now cells)) ⌝ }
-    ensures { λ _. ⌜ Ran (steps w) n (state (loaded (now (heap .entry))) (now (slots .entry)) (now (scalars .entry)) (now (list .entry)) (now (directory .entry)) (now (cells .entry))) (state (loaded (now (heap .entry))) (now (slots .entry)) (now (scalars .exit)) (now (list .entry)) (now (directory .entry)) (now (cells .entry))) ⌝ }
-    ensures { λ r. ⌜ Summed (steps w) n (state (loaded (now (heap .entry))) (now (slots .entry)) (now (scalars .entry)) (now (list .entry)) (now (directory .entry)) (now (cells .entry))) r ⌝ }
+    requires { ⌜ Good (lent (loaded (now heap)) slots scalars list directory cells) ⌝ }
+    ensures { λ _. ⌜ Ran (steps w) n (before (loaded (now (heap .entry))) slots scalars list directory cells) (after (loaded (now (heap .entry))) slots scalars list directory cells) ⌝ }
+    ensures { λ r. ⌜ Summed (steps w) n (before (loaded (now (heap .entry))) slots scalars list directory cells) r ⌝ }
 {
     let h = record::load(heap);
     let mut i: usize = 0;
@@ -448,10 +448,10 @@ pub extern "C" fn heap_bench_collect(
     roots: &[u64],
     places: &mut [u64],
 ) -> u64
-    requires { ⌜ Good (state (loaded (now heap)) (now slots) (now scalars) (now list) (now directory) (now cells)) ⌝ }
+    requires { ⌜ Good (lent (loaded (now heap)) slots scalars list directory cells) ⌝ }
     requires { ⌜ Tabled (now layout) (now table) ⌝ }
     requires { ⌜ Rested (loaded (now heap) .size) (now marks) (now order) ⌝ }
-    ensures { λ r. ⌜ Collects (layoutOf (now (layout .entry))) (now (roots .entry)) (now (places .entry)) (state (loaded (now (heap .entry))) (now (slots .entry)) (now (scalars .entry)) (now (list .entry)) (now (directory .entry)) (now (cells .entry))) r (now (places .exit)) (state (loaded (now (heap .exit))) (now (slots .exit)) (now (scalars .exit)) (now (list .exit)) (now (directory .entry)) (now (cells .entry))) ⌝ }
+    ensures { λ r. ⌜ Collects (layoutOf (now (layout .entry))) (now (roots .entry)) (now (places .entry)) (before (loaded (now (heap .entry))) slots scalars list directory cells) r (now (places .exit)) (after (loaded (now (heap .exit))) slots scalars list directory cells) ⌝ }
     ensures { λ _. ⌜ now (marks .exit) ≡ now (marks .entry) ⌝ }
     ensures { λ _. ⌜ now (order .exit) ≡ now (order .entry) ⌝ }
 {

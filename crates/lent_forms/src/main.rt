@@ -5,7 +5,7 @@ ghost use mathlib.Core.Path.{_≡_};
 ghost use Rattle.map_store.specs.View.{cursorIs};
 ghost use Rattle.model.specs.Calls as Calls;
 ghost use Rattle.heap.specs.Answers.{madeIs};
-ghost use Rattle.heap.specs.State.{state};
+ghost use Rattle.heap.specs.State.{after, before, lent};
 ghost use Rattle.heap.specs.Good.{Good};
 ghost use Rattle.heap.specs.Promise.{Performs, Reads};
 ghost use Rattle.allocation.specs.Coroutines.{callOf};
@@ -44,8 +44,8 @@ fn made_from(
     registers: &[u64],
     frames: [Frame; 2],
 ) -> Made
-    requires { ⌜ Good (state heap (now slots) (now scalars) (now list) (now directory) (now cells)) ⌝ }
-    ensures { λ r. ⌜ Performs (callOf k (now (registers .entry)) frames) (state heap (now (slots .entry)) (now (scalars .entry)) (now (list .entry)) (now (directory .entry)) (now (cells .entry))) (madeIs (r .answer)) (state (r .heap) (now (slots .exit)) (now (scalars .exit)) (now (list .entry)) (now (directory .exit)) (now (cells .exit))) ⌝ }
+    requires { ⌜ Good (lent heap slots scalars list directory cells) ⌝ }
+    ensures { λ r. ⌜ Performs (callOf k (now (registers .entry)) frames) (before heap slots scalars list directory cells) (madeIs (r .answer)) (after (r .heap) slots scalars list directory cells) ⌝ }
 {
     allocation::new_coroutine(
         heap,
@@ -70,8 +70,8 @@ fn next_from(
     w: u64,
     c: Cursor,
 ) -> Moved
-    requires { ⌜ Good (state heap (now slots) (now scalars) (now list) (now directory) (now cells)) ⌝ }
-    ensures { λ r. ⌜ Reads (Calls.next w (cursorIs c)) (state heap (now (slots .entry)) (now (scalars .entry)) (now (list .entry)) (now (directory .entry)) (now (cells .entry))) (lentSeen (cursorIs (r .cursor)) (r .answer)) ⌝ }
+    requires { ⌜ Good (lent heap slots scalars list directory cells) ⌝ }
+    ensures { λ r. ⌜ Reads (Calls.next w (cursorIs c)) (before heap slots scalars list directory cells) (lentSeen (cursorIs (r .cursor)) (r .answer)) ⌝ }
 {
     let mut cursor = c;
     let answer = collections::next(heap, slots, scalars, list, directory, cells, w, &mut cursor);
@@ -103,7 +103,7 @@ fn print_frame(
     w: u64,
     i: u64,
 )
-    requires { ⌜ Good (state heap (now slots) (now scalars) (now list) (now directory) (now cells)) ⌝ }
+    requires { ⌜ Good (lent heap slots scalars list directory cells) ⌝ }
 {
     match access::read_frame(heap, slots, scalars, list, directory, cells, w, i) {
         FrameRead::Refused(q) => print_refusal(q),
@@ -176,8 +176,8 @@ fn coroutine(
     directory: &mut [u64],
     cells: &mut [u64],
 ) -> Heap
-    requires { ⌜ Good (state heap (now slots) (now scalars) (now list) (now directory) (now cells)) ⌝ }
-    ensures { λ r. ⌜ Good (state r (now (slots .exit)) (now (scalars .exit)) (now (list .entry)) (now (directory .exit)) (now (cells .exit))) ⌝ }
+    requires { ⌜ Good (lent heap slots scalars list directory cells) ⌝ }
+    ensures { λ r. ⌜ Good (after r slots scalars list directory cells) ⌝ }
 {
     let k = Coroutine {
         state: 2,
@@ -225,8 +225,8 @@ fn put(
     key: u64,
     value: u64,
 ) -> Heap
-    requires { ⌜ Good (state heap (now slots) (now scalars) (now list) (now directory) (now cells)) ⌝ }
-    ensures { λ r. ⌜ Good (state r (now (slots .exit)) (now (scalars .exit)) (now (list .entry)) (now (directory .exit)) (now (cells .exit))) ⌝ }
+    requires { ⌜ Good (lent heap slots scalars list directory cells) ⌝ }
+    ensures { λ r. ⌜ Good (after r slots scalars list directory cells) ⌝ }
 {
     let s = collections::put(
         heap,
@@ -259,7 +259,7 @@ fn steps(
     cells: &[u64],
     w: u64,
 )
-    requires { ⌜ Good (state heap (now slots) (now scalars) (now list) (now directory) (now cells)) ⌝ }
+    requires { ⌜ Good (lent heap slots scalars list directory cells) ⌝ }
 {
     let mut c = Cursor {
         last: Last::Never,
@@ -287,8 +287,8 @@ fn filled(
     cells: &mut [u64],
     w: u64,
 ) -> Heap
-    requires { ⌜ Good (state heap (now slots) (now scalars) (now list) (now directory) (now cells)) ⌝ }
-    ensures { λ r. ⌜ Good (state r (now (slots .exit)) (now (scalars .exit)) (now (list .entry)) (now (directory .exit)) (now (cells .exit))) ⌝ }
+    requires { ⌜ Good (lent heap slots scalars list directory cells) ⌝ }
+    ensures { λ r. ⌜ Good (after r slots scalars list directory cells) ⌝ }
 {
     let a = put(
         heap,
@@ -336,7 +336,7 @@ fn map(
     directory: &mut [u64],
     cells: &mut [u64],
 )
-    requires { ⌜ Good (state heap (now slots) (now scalars) (now list) (now directory) (now cells)) ⌝ }
+    requires { ⌜ Good (lent heap slots scalars list directory cells) ⌝ }
 {
     let m = collections::new_map(heap, slots, scalars, list, directory, cells, 0, 0);
     let h = m.heap;
@@ -358,7 +358,7 @@ fn both(
     directory: &mut [u64],
     cells: &mut [u64],
 )
-    requires { ⌜ Good (state heap (now slots) (now scalars) (now list) (now directory) (now cells)) ⌝ }
+    requires { ⌜ Good (lent heap slots scalars list directory cells) ⌝ }
 {
     let h = coroutine(heap, slots, scalars, list, directory, cells);
     map(h, slots, scalars, list, directory, cells);

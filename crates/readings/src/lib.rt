@@ -5,7 +5,7 @@ ghost use Rattle.map_store.specs.View.{cursorIs};
 ghost use Rattle.model.specs.Calls as Calls;
 ghost use Rattle.model.specs.Replies as Replies;
 ghost use Rattle.heap.specs.Answers.{answered, kindNumber, readingIs, signedIs, testIs};
-ghost use Rattle.heap.specs.State.{State, state};
+ghost use Rattle.heap.specs.State.{State, before, lent};
 ghost use Rattle.heap.specs.Good.{Good};
 ghost use Rattle.access.specs.Answers.{frameIs};
 ghost use Rattle.collections.specs.Answers.{cursorSeen, entrySeen, nextSeen, notedSeen, perhapsIs};
@@ -146,8 +146,8 @@ fn plain_read(
     code: u64,
     o: Operands,
 ) -> Performed
-    requires { ⌜ Good (state heap (now slots) (now scalars) (now list) (now directory) (now cells)) ⌝ }
-    ensures { λ r. ⌜ ReadBy (state heap (now (slots .entry)) (now (scalars .entry)) (now (list .entry)) (now (directory .entry)) (now (cells .entry))) (plainRead code o) r ⌝ }
+    requires { ⌜ Good (lent heap slots scalars list directory cells) ⌝ }
+    ensures { λ r. ⌜ ReadBy (before heap slots scalars list directory cells) (plainRead code o) r ⌝ }
 {
     let w = o.a;
     match code {
@@ -176,8 +176,8 @@ fn list_read(
     code: u64,
     o: Operands,
 ) -> Performed
-    requires { ⌜ Good (state heap (now slots) (now scalars) (now list) (now directory) (now cells)) ⌝ }
-    ensures { λ r. ⌜ ReadBy (state heap (now (slots .entry)) (now (scalars .entry)) (now (list .entry)) (now (directory .entry)) (now (cells .entry))) (listRead code o) r ⌝ }
+    requires { ⌜ Good (lent heap slots scalars list directory cells) ⌝ }
+    ensures { λ r. ⌜ ReadBy (before heap slots scalars list directory cells) (listRead code o) r ⌝ }
 {
     let w = o.a;
     match code {
@@ -207,8 +207,8 @@ fn coroutine_part(
     w: u64,
     code: u64,
 ) -> Performed
-    requires { ⌜ Good (state heap (now slots) (now scalars) (now list) (now directory) (now cells)) ⌝ }
-    ensures { λ r. ⌜ ReadBy (state heap (now (slots .entry)) (now (scalars .entry)) (now (list .entry)) (now (directory .entry)) (now (cells .entry))) (coroutinePart w code) r ⌝ }
+    requires { ⌜ Good (lent heap slots scalars list directory cells) ⌝ }
+    ensures { λ r. ⌜ ReadBy (before heap slots scalars list directory cells) (coroutinePart w code) r ⌝ }
 {
     match code {
         0 => word(access::read_payload(heap, slots, scalars, list, directory, cells, w)),
@@ -234,8 +234,8 @@ fn coroutine_read(
     code: u64,
     o: Operands,
 ) -> Performed
-    requires { ⌜ Good (state heap (now slots) (now scalars) (now list) (now directory) (now cells)) ⌝ }
-    ensures { λ r. ⌜ ReadBy (state heap (now (slots .entry)) (now (scalars .entry)) (now (list .entry)) (now (directory .entry)) (now (cells .entry))) (coroutineRead code o) r ⌝ }
+    requires { ⌜ Good (lent heap slots scalars list directory cells) ⌝ }
+    ensures { λ r. ⌜ ReadBy (before heap slots scalars list directory cells) (coroutineRead code o) r ⌝ }
 {
     let w = o.a;
     match code {
@@ -275,8 +275,8 @@ fn step(
     cells: &[u64],
     o: Operands,
 ) -> Performed
-    requires { ⌜ Good (state heap (now slots) (now scalars) (now list) (now directory) (now cells)) ⌝ }
-    ensures { λ r. ⌜ ReadBy (state heap (now (slots .entry)) (now (scalars .entry)) (now (list .entry)) (now (directory .entry)) (now (cells .entry))) (some (Calls.next (o .a) (cursorIn o))) r ⌝ }
+    requires { ⌜ Good (lent heap slots scalars list directory cells) ⌝ }
+    ensures { λ r. ⌜ ReadBy (before heap slots scalars list directory cells) (some (Calls.next (o .a) (cursorIn o))) r ⌝ }
 {
     let c = cursor_in(o);
     let a = collections::step_cursor(heap, slots, scalars, list, directory, cells, o.a, c);
@@ -294,8 +294,8 @@ fn map_read(
     code: u64,
     o: Operands,
 ) -> Performed
-    requires { ⌜ Good (state heap (now slots) (now scalars) (now list) (now directory) (now cells)) ⌝ }
-    ensures { λ r. ⌜ ReadBy (state heap (now (slots .entry)) (now (scalars .entry)) (now (list .entry)) (now (directory .entry)) (now (cells .entry))) (mapRead code o) r ⌝ }
+    requires { ⌜ Good (lent heap slots scalars list directory cells) ⌝ }
+    ensures { λ r. ⌜ ReadBy (before heap slots scalars list directory cells) (mapRead code o) r ⌝ }
 {
     let w = o.a;
     let b = o.b;
@@ -323,8 +323,8 @@ fn map_number(
     code: u64,
     o: Operands,
 ) -> Performed
-    requires { ⌜ Good (state heap (now slots) (now scalars) (now list) (now directory) (now cells)) ⌝ }
-    ensures { λ r. ⌜ ReadBy (state heap (now (slots .entry)) (now (scalars .entry)) (now (list .entry)) (now (directory .entry)) (now (cells .entry))) (mapNumber code o) r ⌝ }
+    requires { ⌜ Good (lent heap slots scalars list directory cells) ⌝ }
+    ensures { λ r. ⌜ ReadBy (before heap slots scalars list directory cells) (mapNumber code o) r ⌝ }
 {
     let w = o.a;
     match code {
@@ -350,8 +350,8 @@ fn iterator_read(
     code: u64,
     o: Operands,
 ) -> Performed
-    requires { ⌜ Good (state heap (now slots) (now scalars) (now list) (now directory) (now cells)) ⌝ }
-    ensures { λ r. ⌜ ReadBy (state heap (now (slots .entry)) (now (scalars .entry)) (now (list .entry)) (now (directory .entry)) (now (cells .entry))) (iteratorRead code o) r ⌝ }
+    requires { ⌜ Good (lent heap slots scalars list directory cells) ⌝ }
+    ensures { λ r. ⌜ ReadBy (before heap slots scalars list directory cells) (iteratorRead code o) r ⌝ }
 {
     let w = o.a;
     match code {
@@ -375,8 +375,8 @@ fn heap_read(
     code: u64,
     o: Operands,
 ) -> Performed
-    requires { ⌜ Good (state heap (now slots) (now scalars) (now list) (now directory) (now cells)) ⌝ }
-    ensures { λ r. ⌜ ReadBy (state heap (now (slots .entry)) (now (scalars .entry)) (now (list .entry)) (now (directory .entry)) (now (cells .entry))) (heapRead code o) r ⌝ }
+    requires { ⌜ Good (lent heap slots scalars list directory cells) ⌝ }
+    ensures { λ r. ⌜ ReadBy (before heap slots scalars list directory cells) (heapRead code o) r ⌝ }
 {
     let w = o.a;
     match code {
@@ -404,8 +404,8 @@ pub fn read_call(
     code: u64,
     o: Operands,
 ) -> Performed
-    requires { ⌜ Good (state heap (now slots) (now scalars) (now list) (now directory) (now cells)) ⌝ }
-    ensures { λ r. ⌜ ReadBy (state heap (now (slots .entry)) (now (scalars .entry)) (now (list .entry)) (now (directory .entry)) (now (cells .entry))) (readCall code o) r ⌝ }
+    requires { ⌜ Good (lent heap slots scalars list directory cells) ⌝ }
+    ensures { λ r. ⌜ ReadBy (before heap slots scalars list directory cells) (readCall code o) r ⌝ }
 {
     let r = word_call(code, o);
     if let Performed::Known(s) = r {

@@ -8,7 +8,7 @@ ghost use lib.Dec.{eqb};
 ghost use lib.ListN.{length, getD, take, drop};
 ghost use Rattle.layout.specs.Layout.{Layout};
 ghost use Rattle.layout.specs.Sections.{layoutOf};
-ghost use Rattle.heap.specs.State.{state};
+ghost use Rattle.heap.specs.State.{before, lent, state};
 ghost use Rattle.heap.specs.Good.{Good, Ready};
 ghost use Rattle.heap.specs.Opens.{Opens, beside, newHeap, openingOf};
 ghost use Rattle.commands.specs.Commands.{commandCall};
@@ -301,8 +301,8 @@ fn import_of(
     code: u64,
     w: u64,
 ) -> u64
-    requires { ⌜ Good (state heap (now slots) (now scalars) (now list) (now directory) (now cells)) ⌝ }
-    ensures { λ r. ⌜ (code ≡ 0x2B → (l : Layout) → r ≡ importWord l (state heap (now (slots .entry)) (now (scalars .entry)) (now (list .entry)) (now (directory .entry)) (now (cells .entry))) w) ⌝ }
+    requires { ⌜ Good (lent heap slots scalars list directory cells) ⌝ }
+    ensures { λ r. ⌜ (code ≡ 0x2B → (l : Layout) → r ≡ importWord l (before heap slots scalars list directory cells) w) ⌝ }
 {
     if code == 0x2B {
         let a = access::is_import(heap, slots, scalars, list, directory, cells, w);

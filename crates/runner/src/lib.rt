@@ -4,7 +4,7 @@ ghost use mathlib.Core.List.{[], _∷_};
 ghost use Prim.Native.Nat.{_+_, _-_, _*_, _≤_, _<_};
 ghost use lib.ListN.{length, replicate, take, drop};
 ghost use Rattle.layout.specs.Sections.{layoutOf};
-ghost use Rattle.heap.specs.State.{state};
+ghost use Rattle.heap.specs.State.{after, before, lent};
 ghost use Rattle.heap.specs.Good.{Ready};
 ghost use Rattle.runner.specs.Scripts.{bytesFor, bytesLent, callIn, callsOf, numbered, placesLent, turnedBy};
 ghost use Rattle.runner.specs.Runs.{Onward, Plays, Runs, advancedOf, refusedOne, ranOf, summaryIs, turnAt};
@@ -168,12 +168,12 @@ fn make(
     bytes: &mut [u8],
     places: &mut [u64],
 ) -> Ran
-    requires { ⌜ Ready (state heap (now slots) (now scalars) (now list) (now directory) (now cells)) (now marks) (now order) (now layout) (now table) ⌝ }
+    requires { ⌜ Ready (lent heap slots scalars list directory cells) (now marks) (now order) (now layout) (now table) ⌝ }
     requires { ⌜ (count ≤ end) × (end ≤ length (now words)) ⌝ }
     requires { ⌜ length (now own) ≤ length (now bytes) ⌝ }
-    ensures { λ r. ⌜ Runs (layoutOf (now (layout .entry))) ((turnedBy (callIn (length (now (bytes .entry))) (length (now (places .entry))) code o (take count (now (words .entry))) (take (end - count) (drop count (now (words .entry)))) (now (own .entry))) []) .calls) (state heap (now (slots .entry)) (now (scalars .entry)) (now (list .entry)) (now (directory .entry)) (now (cells .entry))) (r .refused) (state (r .heap) (now (slots .exit)) (now (scalars .exit)) (now (list .exit)) (now (directory .exit)) (now (cells .exit))) ⌝ }
+    ensures { λ r. ⌜ Runs (layoutOf (now (layout .entry))) ((turnedBy (callIn (length (now (bytes .entry))) (length (now (places .entry))) code o (take count (now (words .entry))) (take (end - count) (drop count (now (words .entry)))) (now (own .entry))) []) .calls) (before heap slots scalars list directory cells) (r .refused) (after (r .heap) slots scalars list directory cells) ⌝ }
     ensures { λ r. ⌜ r .calls ≡ length ((turnedBy (callIn (length (now (bytes .entry))) (length (now (places .entry))) code o (take count (now (words .entry))) (take (end - count) (drop count (now (words .entry)))) (now (own .entry))) []) .calls) ⌝ }
-    ensures { λ r. ⌜ Ready (state (r .heap) (now (slots .exit)) (now (scalars .exit)) (now (list .exit)) (now (directory .exit)) (now (cells .exit))) (now (marks .exit)) (now (order .exit)) (now (layout .entry)) (now (table .entry)) ⌝ }
+    ensures { λ r. ⌜ Ready (after (r .heap) slots scalars list directory cells) (now (marks .exit)) (now (order .exit)) (now (layout .entry)) (now (table .entry)) ⌝ }
 {
     let b = bytes_lent(code, o);
     if (bytes.len() as u64) < b {
@@ -250,14 +250,14 @@ fn turn(
     bytes: &mut [u8],
     places: &mut [u64],
 ) -> Progress
-    requires { ⌜ Ready (state heap (now slots) (now scalars) (now list) (now directory) (now cells)) (now marks) (now order) (now layout) (now table) ⌝ }
+    requires { ⌜ Ready (lent heap slots scalars list directory cells) (now marks) (now order) (now layout) (now table) ⌝ }
     requires { ⌜ at < length (now script) ⌝ }
     requires { ⌜ length (now script) ≤ 8 * length (now words) ⌝ }
     requires { ⌜ length (now script) ≤ length (now bytes) ⌝ }
-    ensures { λ r. ⌜ Runs (layoutOf (now (layout .entry))) ((turnAt (length (now (bytes .entry))) (length (now (places .entry))) (now (script .entry)) at) .calls) (state heap (now (slots .entry)) (now (scalars .entry)) (now (list .entry)) (now (directory .entry)) (now (cells .entry))) (r .refused) (state (r .heap) (now (slots .exit)) (now (scalars .exit)) (now (list .exit)) (now (directory .exit)) (now (cells .exit))) ⌝ }
+    ensures { λ r. ⌜ Runs (layoutOf (now (layout .entry))) ((turnAt (length (now (bytes .entry))) (length (now (places .entry))) (now (script .entry)) at) .calls) (before heap slots scalars list directory cells) (r .refused) (after (r .heap) slots scalars list directory cells) ⌝ }
     ensures { λ r. ⌜ r .calls ≡ length ((turnAt (length (now (bytes .entry))) (length (now (places .entry))) (now (script .entry)) at) .calls) ⌝ }
     ensures { λ r. ⌜ Onward (turnAt (length (now (bytes .entry))) (length (now (places .entry))) (now (script .entry)) at) (now (script .entry)) at (r .next) ⌝ }
-    ensures { λ r. ⌜ Ready (state (r .heap) (now (slots .exit)) (now (scalars .exit)) (now (list .exit)) (now (directory .exit)) (now (cells .exit))) (now (marks .exit)) (now (order .exit)) (now (layout .entry)) (now (table .entry)) ⌝ }
+    ensures { λ r. ⌜ Ready (after (r .heap) slots scalars list directory cells) (now (marks .exit)) (now (order .exit)) (now (layout .entry)) (now (table .entry)) ⌝ }
 {
     let k = script::read_call(script, at, words);
     let end = script.len();
@@ -316,12 +316,12 @@ fn run_all(
     bytes: &mut [u8],
     places: &mut [u64],
 ) -> Ran
-    requires { ⌜ Ready (state heap (now slots) (now scalars) (now list) (now directory) (now cells)) (now marks) (now order) (now layout) (now table) ⌝ }
+    requires { ⌜ Ready (lent heap slots scalars list directory cells) (now marks) (now order) (now layout) (now table) ⌝ }
     requires { ⌜ length (now script) ≤ 8 * length (now words) ⌝ }
     requires { ⌜ length (now script) ≤ length (now bytes) ⌝ }
-    ensures { λ r. ⌜ Runs (layoutOf (now (layout .entry))) (callsOf (length (now (bytes .entry))) (length (now (places .entry))) (now (script .entry))) (state heap (now (slots .entry)) (now (scalars .entry)) (now (list .entry)) (now (directory .entry)) (now (cells .entry))) (r .refused) (state (r .heap) (now (slots .exit)) (now (scalars .exit)) (now (list .exit)) (now (directory .exit)) (now (cells .exit))) ⌝ }
+    ensures { λ r. ⌜ Runs (layoutOf (now (layout .entry))) (callsOf (length (now (bytes .entry))) (length (now (places .entry))) (now (script .entry))) (before heap slots scalars list directory cells) (r .refused) (after (r .heap) slots scalars list directory cells) ⌝ }
     ensures { λ r. ⌜ r .calls ≡ length (callsOf (length (now (bytes .entry))) (length (now (places .entry))) (now (script .entry))) ⌝ }
-    ensures { λ r. ⌜ Ready (state (r .heap) (now (slots .exit)) (now (scalars .exit)) (now (list .exit)) (now (directory .exit)) (now (cells .exit))) (now (marks .exit)) (now (order .exit)) (now (layout .entry)) (now (table .entry)) ⌝ }
+    ensures { λ r. ⌜ Ready (after (r .heap) slots scalars list directory cells) (now (marks .exit)) (now (order .exit)) (now (layout .entry)) (now (table .entry)) ⌝ }
 {
     let mut h = heap;
     let mut calls: u64 = 0;
@@ -376,9 +376,9 @@ pub fn run(
     bytes: &mut [u8],
     places: &mut [u64],
 ) -> Scripted
-    requires { ⌜ Ready (state heap (now slots) (now scalars) (now list) (now directory) (now cells)) (now marks) (now order) (now layout) (now table) ⌝ }
-    ensures { λ r. ⌜ Plays (layoutOf (now (layout .entry))) (length (now (words .entry))) (length (now (bytes .entry))) (length (now (places .entry))) (now (script .entry)) (state heap (now (slots .entry)) (now (scalars .entry)) (now (list .entry)) (now (directory .entry)) (now (cells .entry))) (summaryIs heap r) (state ((summaryIs heap r) .heap) (now (slots .exit)) (now (scalars .exit)) (now (list .exit)) (now (directory .exit)) (now (cells .exit))) ⌝ }
-    ensures { λ r. ⌜ Ready (state ((summaryIs heap r) .heap) (now (slots .exit)) (now (scalars .exit)) (now (list .exit)) (now (directory .exit)) (now (cells .exit))) (now (marks .exit)) (now (order .exit)) (now (layout .entry)) (now (table .entry)) ⌝ }
+    requires { ⌜ Ready (lent heap slots scalars list directory cells) (now marks) (now order) (now layout) (now table) ⌝ }
+    ensures { λ r. ⌜ Plays (layoutOf (now (layout .entry))) (length (now (words .entry))) (length (now (bytes .entry))) (length (now (places .entry))) (now (script .entry)) (before heap slots scalars list directory cells) (summaryIs heap r) (after ((summaryIs heap r) .heap) slots scalars list directory cells) ⌝ }
+    ensures { λ r. ⌜ Ready (after ((summaryIs heap r) .heap) slots scalars list directory cells) (now (marks .exit)) (now (order .exit)) (now (layout .entry)) (now (table .entry)) ⌝ }
     ensures { λ r. ⌜ ((summaryIs heap r) .refusal ≡ 8 → (now (slots .exit) ∷ now (scalars .exit) ∷ now (list .exit) ∷ now (directory .exit) ∷ now (cells .exit) ∷ now (marks .exit) ∷ now (order .exit) ∷ now (words .exit) ∷ now (bytes .exit) ∷ now (places .exit) ∷ []) ≡ (now (slots .entry) ∷ now (scalars .entry) ∷ now (list .entry) ∷ now (directory .entry) ∷ now (cells .entry) ∷ now (marks .entry) ∷ now (order .entry) ∷ now (words .entry) ∷ now (bytes .entry) ∷ now (places .entry) ∷ [])) ⌝ }
 {
     let n = script.len();

@@ -12,7 +12,7 @@ ghost use Rattle.model.specs.Model.{Model};
 ghost use Rattle.model.specs.Calls as Calls;
 ghost use Rattle.model.specs.Callsheet.{callOf, littleEndian, operandBytes, present-operands, sheetText};
 ghost use Rattle.heap.specs.Answers.{numberOf, readingIs};
-ghost use Rattle.heap.specs.State.{state};
+ghost use Rattle.heap.specs.State.{after, before, lent};
 ghost use Rattle.heap.specs.Good.{Good, Ready};
 ghost use Rattle.sheet.specs.Turns.{Supplied, operandsIs, textFrom};
 ghost use Rattle.sheet.specs.Promise.{Answers, Commands, Prints, Rooted, Roots, Shows, Turns, sheetOf, shownOf};
@@ -165,9 +165,9 @@ fn call_box(
     cells: &[u64],
     operands: &[u8],
 ) -> Shown
-    requires { ⌜ Good (state heap (now slots) (now scalars) (now list) (now directory) (now cells)) ⌝ }
+    requires { ⌜ Good (lent heap slots scalars list directory cells) ⌝ }
     requires { ⌜ 8 ≤ length (now operands) ⌝ }
-    ensures { λ r. ⌜ ((l : Layout) → Shows l (Calls.new-box (littleEndian (take 8 (now (operands .entry))))) (state heap (now (slots .entry)) (now (scalars .entry)) (now (list .entry)) (now (directory .entry)) (now (cells .entry))) r (state (r .heap) (now (slots .exit)) (now (scalars .entry)) (now (list .entry)) (now (directory .entry)) (now (cells .entry)))) ⌝ }
+    ensures { λ r. ⌜ ((l : Layout) → Shows l (Calls.new-box (littleEndian (take 8 (now (operands .entry))))) (before heap slots scalars list directory cells) r (after (r .heap) slots scalars list directory cells)) ⌝ }
 {
     let w = text::read_little(operands, 0, 8);
     let m = allocation::new_box(heap, slots, scalars, list, directory, cells, w);
@@ -185,9 +185,9 @@ fn call_array(
     cells: &mut [u64],
     operands: &[u8],
 ) -> Shown
-    requires { ⌜ Good (state heap (now slots) (now scalars) (now list) (now directory) (now cells)) ⌝ }
+    requires { ⌜ Good (lent heap slots scalars list directory cells) ⌝ }
     requires { ⌜ 9 ≤ length (now operands) ⌝ }
-    ensures { λ r. ⌜ ((l : Layout) → Shows l (Calls.new-array (getD (now (operands .entry)) 0 0) (signed64 (littleEndian (take 8 (drop 1 (now (operands .entry))))))) (state heap (now (slots .entry)) (now (scalars .entry)) (now (list .entry)) (now (directory .entry)) (now (cells .entry))) r (state (r .heap) (now (slots .exit)) (now (scalars .entry)) (now (list .entry)) (now (directory .exit)) (now (cells .exit)))) ⌝ }
+    ensures { λ r. ⌜ ((l : Layout) → Shows l (Calls.new-array (getD (now (operands .entry)) 0 0) (signed64 (littleEndian (take 8 (drop 1 (now (operands .entry))))))) (before heap slots scalars list directory cells) r (after (r .heap) slots scalars list directory cells)) ⌝ }
 {
     let n = words::signed_of(text::read_little(operands, 1, 8));
     let t = operands[0] as u64;
@@ -206,9 +206,9 @@ fn call_read(
     cells: &[u64],
     operands: &[u8],
 ) -> Shown
-    requires { ⌜ Good (state heap (now slots) (now scalars) (now list) (now directory) (now cells)) ⌝ }
+    requires { ⌜ Good (lent heap slots scalars list directory cells) ⌝ }
     requires { ⌜ 8 ≤ length (now operands) ⌝ }
-    ensures { λ r. ⌜ ((l : Layout) → Shows l (Calls.read-box (littleEndian (take 8 (now (operands .entry))))) (state heap (now (slots .entry)) (now (scalars .entry)) (now (list .entry)) (now (directory .entry)) (now (cells .entry))) r (state (r .heap) (now (slots .entry)) (now (scalars .entry)) (now (list .entry)) (now (directory .entry)) (now (cells .entry)))) ⌝ }
+    ensures { λ r. ⌜ ((l : Layout) → Shows l (Calls.read-box (littleEndian (take 8 (now (operands .entry))))) (before heap slots scalars list directory cells) r (before (r .heap) slots scalars list directory cells)) ⌝ }
 {
     let w = text::read_little(operands, 0, 8);
     let a = access::read_box(heap, slots, scalars, list, directory, cells, w);
@@ -229,8 +229,8 @@ fn call_collect(
     table: &[u64],
     roots: &[u64],
 ) -> Shown
-    requires { ⌜ Ready (state heap (now slots) (now scalars) (now list) (now directory) (now cells)) (now marks) (now order) (now layout) (now table) ⌝ }
-    ensures { λ r. ⌜ Shows (layoutOf (now (layout .entry))) (Calls.collect (now (roots .entry)) []) (state heap (now (slots .entry)) (now (scalars .entry)) (now (list .entry)) (now (directory .entry)) (now (cells .entry))) r (state (r .heap) (now (slots .exit)) (now (scalars .exit)) (now (list .exit)) (now (directory .entry)) (now (cells .entry))) ⌝ }
+    requires { ⌜ Ready (lent heap slots scalars list directory cells) (now marks) (now order) (now layout) (now table) ⌝ }
+    ensures { λ r. ⌜ Shows (layoutOf (now (layout .entry))) (Calls.collect (now (roots .entry)) []) (before heap slots scalars list directory cells) r (after (r .heap) slots scalars list directory cells) ⌝ }
     ensures { λ r. ⌜ now (marks .exit) ≡ now (marks .entry) ⌝ }
     ensures { λ r. ⌜ now (order .exit) ≡ now (order .entry) ⌝ }
 {
@@ -270,9 +270,9 @@ fn call(
     command: u8,
     operands: &[u8],
 ) -> Shown
-    requires { ⌜ Ready (state heap (now slots) (now scalars) (now list) (now directory) (now cells)) (now marks) (now order) (now layout) (now table) ⌝ }
+    requires { ⌜ Ready (lent heap slots scalars list directory cells) (now marks) (now order) (now layout) (now table) ⌝ }
     requires { ⌜ Supplied command (now operands) ⌝ }
-    ensures { λ r. ⌜ Shows (layoutOf (now (layout .entry))) (callOf command (now (operands .entry)) (now (roots .entry))) (state heap (now (slots .entry)) (now (scalars .entry)) (now (list .entry)) (now (directory .entry)) (now (cells .entry))) r (state (r .heap) (now (slots .exit)) (now (scalars .exit)) (now (list .exit)) (now (directory .exit)) (now (cells .exit))) ⌝ }
+    ensures { λ r. ⌜ Shows (layoutOf (now (layout .entry))) (callOf command (now (operands .entry)) (now (roots .entry))) (before heap slots scalars list directory cells) r (after (r .heap) slots scalars list directory cells) ⌝ }
     ensures { λ r. ⌜ now (marks .exit) ≡ now (marks .entry) ⌝ }
     ensures { λ r. ⌜ now (order .exit) ≡ now (order .entry) ⌝ }
 {
@@ -316,12 +316,12 @@ fn call_turn(
     out: &mut [u8],
     end: usize,
 ) -> Lined
-    requires { ⌜ Ready (state heap (now slots) (now scalars) (now list) (now directory) (now cells)) (now marks) (now order) (now layout) (now table) ⌝ }
+    requires { ⌜ Ready (lent heap slots scalars list directory cells) (now marks) (now order) (now layout) (now table) ⌝ }
     requires { ⌜ Supplied command (now operands) ⌝ }
     requires { ⌜ (command ≡ 11 → ⊥) ⌝ }
     requires { ⌜ end + 62 ≤ length (now out) ⌝ }
-    ensures { λ r. ⌜ Commands (sheetOf (layoutOf (now (layout .entry))) (state heap (now (slots .entry)) (now (scalars .entry)) (now (list .entry)) (now (directory .entry)) (now (cells .entry))) (now (roots .entry))) command (now (operands .entry)) (now (out .entry)) end (sheetOf (layoutOf (now (layout .entry))) (state (r .heap) (now (slots .exit)) (now (scalars .exit)) (now (list .exit)) (now (directory .exit)) (now (cells .exit))) (now (roots .entry))) (now (out .exit)) (r .end) ⌝ }
-    ensures { λ r. ⌜ Ready (state (r .heap) (now (slots .exit)) (now (scalars .exit)) (now (list .exit)) (now (directory .exit)) (now (cells .exit))) (now (marks .exit)) (now (order .exit)) (now (layout .entry)) (now (table .entry)) ⌝ }
+    ensures { λ r. ⌜ Commands (sheetOf (layoutOf (now (layout .entry))) (before heap slots scalars list directory cells) (now (roots .entry))) command (now (operands .entry)) (now (out .entry)) end (sheetOf (layoutOf (now (layout .entry))) (after (r .heap) slots scalars list directory cells) (now (roots .entry))) (now (out .exit)) (r .end) ⌝ }
+    ensures { λ r. ⌜ Ready (after (r .heap) slots scalars list directory cells) (now (marks .exit)) (now (order .exit)) (now (layout .entry)) (now (table .entry)) ⌝ }
 {
     let s = call(
         heap,
@@ -385,12 +385,12 @@ fn turn(
     out: &mut [u8],
     end: usize,
 ) -> Progress
-    requires { ⌜ Ready (state heap (now slots) (now scalars) (now list) (now directory) (now cells)) (now marks) (now order) (now layout) (now table) ⌝ }
+    requires { ⌜ Ready (lent heap slots scalars list directory cells) (now marks) (now order) (now layout) (now table) ⌝ }
     requires { ⌜ Rooted (now roots) count ⌝ }
     requires { ⌜ at < length (now input) ⌝ }
     requires { ⌜ end + 62 ≤ length (now out) ⌝ }
-    ensures { λ r. ⌜ Turns (sheetOf (layoutOf (now (layout .entry))) (state heap (now (slots .entry)) (now (scalars .entry)) (now (list .entry)) (now (directory .entry)) (now (cells .entry))) (take count (now (roots .entry)))) (now (input .entry)) at (now (out .entry)) end (sheetOf (layoutOf (now (layout .entry))) (state (r .heap) (now (slots .exit)) (now (scalars .exit)) (now (list .exit)) (now (directory .exit)) (now (cells .exit))) (take (r .count) (now (roots .exit)))) (r .at) (now (out .exit)) (r .end) ⌝ }
-    ensures { λ r. ⌜ Ready (state (r .heap) (now (slots .exit)) (now (scalars .exit)) (now (list .exit)) (now (directory .exit)) (now (cells .exit))) (now (marks .exit)) (now (order .exit)) (now (layout .entry)) (now (table .entry)) ⌝ }
+    ensures { λ r. ⌜ Turns (sheetOf (layoutOf (now (layout .entry))) (before heap slots scalars list directory cells) (take count (now (roots .entry)))) (now (input .entry)) at (now (out .entry)) end (sheetOf (layoutOf (now (layout .entry))) (after (r .heap) slots scalars list directory cells) (take (r .count) (now (roots .exit)))) (r .at) (now (out .exit)) (r .end) ⌝ }
+    ensures { λ r. ⌜ Ready (after (r .heap) slots scalars list directory cells) (now (marks .exit)) (now (order .exit)) (now (layout .entry)) (now (table .entry)) ⌝ }
     ensures { λ r. ⌜ Rooted (now (roots .exit)) (r .count) ⌝ }
 {
     let account = heap.account;
@@ -461,10 +461,10 @@ fn play(
     input: &[u8],
     out: &mut [u8],
 ) -> usize
-    requires { ⌜ Ready (state heap (now slots) (now scalars) (now list) (now directory) (now cells)) (now marks) (now order) (now layout) (now table) ⌝ }
+    requires { ⌜ Ready (lent heap slots scalars list directory cells) (now marks) (now order) (now layout) (now table) ⌝ }
     requires { ⌜ 64 ≤ length (now roots) ⌝ }
     requires { ⌜ length (now input) * 62 ≤ length (now out) ⌝ }
-    ensures { λ r. ⌜ Prints (textFrom (sheetOf (layoutOf (now (layout .entry))) (state heap (now (slots .entry)) (now (scalars .entry)) (now (list .entry)) (now (directory .entry)) (now (cells .entry))) []) (now (input .entry))) (now (out .entry)) (now (out .exit)) r ⌝ }
+    ensures { λ r. ⌜ Prints (textFrom (sheetOf (layoutOf (now (layout .entry))) (before heap slots scalars list directory cells) []) (now (input .entry))) (now (out .entry)) (now (out .exit)) r ⌝ }
 {
     let mut h = heap;
     let mut count: usize = 0;
