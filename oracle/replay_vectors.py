@@ -1,8 +1,7 @@
 #!/usr/bin/env python3
-"""replay_vectors.py JUDGES DIR [PER]: writes DIR/stdin and DIR/stdout, the script of the program replay and the lines it must print.
+"""replay_vectors.py DIR [PER]: writes DIR/stdin and DIR/stdout, the script of the program replay and the lines it must print.
 
-JUDGES is the folder with `model` (the reference model) and `oracle` (the Rust originals behind the same script format, built with
-cargo). The script is the fixed cases of the reference model, the rules of rules.py and PER random scripts of every profile, each opened
+The original is built before, by oracle/build. The script is the fixed cases of the reference model, the rules of rules.py and PER random scripts of every profile, each opened
 anew. Whatever heap a part leaves is read back at its end, and before it opens another: every content of every object whose reference was
 answered, present or not (arrays of more than 1,000 items left out); the counts; the free list, by boxes that take from it; the distance
 from the threshold, by charges. Parts without refusals 6 to 10 are answered by model and original, which must agree, the others by the
@@ -10,10 +9,10 @@ model alone. The script ends with an unknown command; the box after it is not ma
 import os
 import sys
 
-judges, target = sys.argv[1:3]
-per = int(sys.argv[3]) if len(sys.argv) > 3 else 3
+target = sys.argv[1]
+per = int(sys.argv[2]) if len(sys.argv) > 2 else 3
 sys.argv = [sys.argv[0], "--port="]  # the sizes that the program holds
-sys.path.insert(0, os.path.join(judges, "model"))
+sys.path.insert(0, os.path.join(os.path.dirname(os.path.abspath(__file__)), "model"))
 sys.dont_write_bytecode = True
 import cases
 import compare
@@ -79,9 +78,9 @@ def lines(script):
 
 
 def held(script):
-    """No opening, list or buffer is larger than the program's own."""
+    """No accepted opening, no list and no buffer is larger than the program's own."""
     for name, args in decoded(script):
-        if name == "open" and (1024 < args[0] <= 65536 or 65536 < args[1] <= 1048576) or name == "collect" and args[1] > 65536 or name == "string_read" and args[1] > 524288:
+        if name == "open" and (args[0] > 1024 or args[1] > 65536) and model.Runner().call(name, *args)[0] == 0 or name == "collect" and args[1] > 65536 or name == "string_read" and args[1] > 524288:
             return False
     return True
 

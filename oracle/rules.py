@@ -108,6 +108,10 @@ for i, weight in enumerate(("slot", "entry", "iterator", "coroutine", "frame")):
     weighed = e("map", 0, 0) + e("put", ref(0), 0, 0, 0) + e("iter", ref(0)) + coro(0, 0, 0, [], [(0, 0, 0, 0)])
     rule("Weights are given at opening, 1 to 4,096: " + weight, weighing(0), weighing(4097), weighing(1), weighed, weighing(4096), weighed, both=False)
 rule("1 to 65,536 slots, 0 to 1,048,576 lent cells", start(slots=0), start(slots=65537), start(cells=1048577), start(slots=1, cells=0), e("array", 0, 0), both=False)
+rule("an opening outside these ranges is refused with 10, however large the rest of it is, and the earlier heap stays",
+     start(), e("box", 7), start(slots=0, cells=65537), start(slots=0, cells=1048576), start(slots=65537, cells=65537), start(slots=65536, cells=1048577), e("box_read", box(0)), both=False)
+rule("weights and layout too, where the program has no room for the heap",
+     start(), e("box", 7), start(slots=1025, weights=(0, 1, 1, 1, 1)), start(cells=65537, weights=(1, 1, 1, 1, 4097)), start(slots=65536, cells=1048576, layout=b"\1"), e("box_read", box(0)), both=False)
 
 # ---- "cells are refused exactly if the cells of present objects plus those added exceed the total"
 rule("7: array, string, struct, function, coroutine with all cells and one more",

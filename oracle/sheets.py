@@ -1,7 +1,7 @@
 #!/usr/bin/env python3
-"""sheets.py JUDGES DIR: writes DIR/stdin and DIR/stdout, an input of the program callsheet and the text it must print (crate callsheet_edges).
+"""sheets.py DIR: writes DIR/stdin and DIR/stdout, an input of the program callsheet and the text it must print (crate callsheet_edges).
 
-JUDGES as for replay_vectors.py. One input, since the program opens one heap: random commands, then the edges (kinds of words, types,
+The original is built before, by oracle/build. One input, since the program opens one heap: random commands, then the edges (kinds of words, types,
 lengths, the 65th root, the last cell, the last slot), then random commands again until byte 65,536 cuts an operand; the bytes after it are not
 looked at. The reference model answers all of it, and the Rust original the first part, which meets neither 6 nor 7."""
 import os
@@ -9,9 +9,9 @@ import random
 import subprocess
 import sys
 
-judges, target = sys.argv[1:3]
+target = sys.argv[1]
 sys.argv = sys.argv[:1]
-sys.path.insert(0, os.path.join(judges, "model"))
+sys.path.insert(0, os.path.join(os.path.dirname(os.path.abspath(__file__)), "model"))
 import model
 from compare import ORACLE
 from model import M64

@@ -1,8 +1,7 @@
 #!/usr/bin/env python3
-"""word_vectors.py JUDGES DIR: writes DIR/stdin and DIR/stdout, the script of the program word_vectors and the lines it must print.
+"""word_vectors.py DIR: writes DIR/stdin and DIR/stdout, the script of the program word_vectors and the lines it must print.
 
-JUDGES is the folder with `model` (the reference model) and `oracle` (the Rust originals behind the same script format, built with
-cargo). The calls on words are answered by both, which must agree; the openings by the model alone, since the Rust has no refusal 10.
+The original is built before, by oracle/build. The calls on words are answered by both, which must agree; the openings by the model alone, since the Rust has no refusal 10.
 The script ends with a missing operand."""
 import os
 import random
@@ -10,8 +9,8 @@ import struct
 import subprocess
 import sys
 
-judges, target = sys.argv[1:3]
-sys.path.insert(0, os.path.join(judges, "model"))
+target = sys.argv[1]
+sys.path.insert(0, os.path.join(os.path.dirname(os.path.abspath(__file__)), "model"))
 import model
 
 pick = random.Random(20)
@@ -114,7 +113,7 @@ def answers(data):
 
 
 alone = b"".join(on_words) + END
-oracle = os.path.join(judges, "oracle", "target", "release", "oracle")
+oracle = os.path.join(os.path.dirname(os.path.abspath(__file__)), "../target/oracle/original/release/oracle")
 by_rust = subprocess.run([oracle, "script"], input=alone, stdout=subprocess.PIPE, check=True).stdout.decode()
 assert by_rust == answers(alone), "model and originals differ"
 with open(os.path.join(target, "stdin"), "wb") as f:

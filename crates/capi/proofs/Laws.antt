@@ -23,19 +23,19 @@ use Rattle.heap.specs.declared.Opened.the-variants.{Refused}
 use Rattle.heap.specs.declared.Reading.{Reading}
 use Rattle.heap.specs.declared.Reading.the-variants as Read
 use Rattle.heap.proofs.DoesLaws.{first-none}
-use Rattle.access.specs.Answers.{lentReading}
-use Rattle.allocation.specs.Coroutines.{callOf}
-use Rattle.allocation.specs.declared.Coroutine.{Coroutine}
-use Rattle.collections.specs.Answers.{stepSeen}
-use Rattle.collections.specs.declared.Moved.{Moved}
+use Rattle.heap_access.specs.Answers.{lentReading}
+use Rattle.heap_allocation.specs.Coroutines.{callOf}
+use Rattle.heap_allocation.specs.declared.Coroutine.{Coroutine}
+use Rattle.collections_maps.specs.Answers.{stepSeen}
+use Rattle.collections_maps.specs.declared.Moved.{Moved}
 use Rattle.collector.specs.Answer.{collectionIs}
 use Rattle.collector.specs.declared.Collection.{Collection}
 use Rattle.collector.specs.declared.Collection.the-variants as C
-use Rattle.commands.specs.declared.Shown.{Shown}
-use Rattle.commands.specs.Promise.{ShowsCall}
-use Rattle.commands.specs.Shows.{answerShown, replyShown, shownOf, withLent}
-use Rattle.commands.proofs.PerformedLaws.{shown-refusal}
-use Rattle.record.specs.Record.{loaded}
+use Rattle.answers.specs.declared.Shown.{Shown}
+use Rattle.answers.specs.Promise.{ShowsCall}
+use Rattle.answers.specs.Shows.{answerShown, replyShown, shownOf, withLent}
+use Rattle.answers.proofs.ShownLaws.{shown-refusal}
+use Rattle.heap_record.specs.Record.{loaded}
 use Rattle.capi.specs.Record.{cursorOut}
 use Rattle.capi.specs.Promise.{ShowsList}
 

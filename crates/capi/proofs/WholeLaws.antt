@@ -20,10 +20,10 @@ use Rattle.heap.specs.declared.Opened.the-variants.{Ready, Refused}
 use Rattle.heap.specs.declared.Refusal.the-variants.{BadOpening}
 use Rattle.heap.specs.Opens.{Beside, accepts, openedBy}
 use Rattle.heap.proofs.WholeLaws.{Made, heap-demand-3, heap-shut-out}
-use Rattle.commands.specs.declared.Shown.{Shown}
-use Rattle.commands.specs.Promise.{ShowsCall}
-use Rattle.commands.proofs.PerformedLaws.{shown-refusal}
-use Rattle.record.specs.Record.{OpensWords, loaded, openedIn}
+use Rattle.answers.specs.declared.Shown.{Shown}
+use Rattle.answers.specs.Promise.{ShowsCall}
+use Rattle.answers.proofs.ShownLaws.{shown-refusal}
+use Rattle.heap_record.specs.Record.{OpensWords, loaded, openedIn}
 use Rattle.capi.specs.Session.{AllShow, LibraryDemand3, Session, Sight, and-then, by-list, by-words, in-list, in-words, no-call, show-next, show-none}
 
 -- a call's outcome, by what was shown of it

@@ -9,10 +9,10 @@ use Rattle.model.specs.Replies.{list}
 use Rattle.model.specs.Step.{step}
 use Rattle.history.proofs.Lift.{seen}
 use Rattle.heap.specs.State.{State, modelOf, state}
-use Rattle.commands.specs.declared.Shown.{Shown}
-use Rattle.commands.specs.Promise.{ShowsCall}
-use Rattle.commands.specs.Shows.{shownOf}
-use Rattle.record.specs.Record.{loaded}
+use Rattle.answers.specs.declared.Shown.{Shown}
+use Rattle.answers.specs.Promise.{ShowsCall}
+use Rattle.answers.specs.Shows.{shownOf}
+use Rattle.heap_record.specs.Record.{loaded}
 use Rattle.capi.specs.Record.{shownIn}
 
 -- the state of a heap whose record is kept as words
@@ -20,12 +20,12 @@ abbrev pub holds : List ℕ → List ℕ → List ℕ → List ℕ → List ℕ 
 holds h s x f d c = state (loaded h) s x f d c
 
 -- the call k on the state b left the state a, returned r and answered these words, whatever the layout is
-abbrev pub Performs : Call → State → ℕ → List ℕ → State → Type 0
-Performs k b r answer a = (l : Layout) → ShowsCall l k b (shownIn r answer) a
+abbrev pub Delivers : Call → State → ℕ → List ℕ → State → Type 0
+Delivers k b r answer a = (l : Layout) → ShowsCall l k b (shownIn r answer) a
 
 -- a reading leaves the record and every buffer as they were
-abbrev pub Reads : Call → State → ℕ → List ℕ → Type 0
-Reads k t r answer = Performs k t r answer t
+abbrev pub DeliversSame : Call → State → ℕ → List ℕ → Type 0
+DeliversSame k t r answer = Delivers k t r answer t
 
 -- a call on words alone shows the same on every heap
 abbrev pub Words : Call → ℕ → List ℕ → Type 0

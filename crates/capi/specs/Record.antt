@@ -5,8 +5,8 @@ use mathlib.Core.List.{List, [], _∷_}
 use mathlib.Core.Option.{none, some}
 use lib.Dec.{eqb}
 use lib.ListN.{getD}
-use Rattle.allocation.specs.declared.Coroutine.{Coroutine}
-use Rattle.commands.specs.declared.Shown.{Shown}
+use Rattle.heap_allocation.specs.declared.Coroutine.{Coroutine}
+use Rattle.answers.specs.declared.Shown.{Shown}
 use Rattle.map_store.specs.Store.{Cursor}
 
 -- the number returned and the six words of the answer

@@ -8,9 +8,9 @@ use Rattle.model.specs.Replies.{list}
 use Rattle.model.specs.Demand3.{CodeDemand3, Seen, historyFrom}
 use Rattle.model.specs.ShutOut.{ShutOut}
 use Rattle.heap.specs.State.{State, modelOf}
-use Rattle.commands.specs.declared.Shown.{Shown}
-use Rattle.commands.specs.Promise.{ShowsCall}
-use Rattle.commands.specs.Shows.{shownOf}
+use Rattle.answers.specs.declared.Shown.{Shown}
+use Rattle.answers.specs.Promise.{ShowsCall}
+use Rattle.answers.specs.Shows.{shownOf}
 use Rattle.capi.specs.Promise.{ShowsList}
 
 -- what is seen of a call: the number returned with the six words answered, and the list that was lent, as the call left it

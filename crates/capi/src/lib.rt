@@ -1,9 +1,9 @@
 // The library for C and Rust: every call as a function on words and slices. The heap's record is
 // kept in nineteen words (see crate record). A function returns the number of the refusal, 0 where
 // the call is accepted; the words answered go into `answer`, zeros where there are none.
-use allocation::Coroutine;
-use commands::Shown;
+use answers::Shown;
 use heap::Heap;
+use heap_allocation::Coroutine;
 use map_store::Cursor;
 use map_store::Last;
 ghost use mathlib.Core.Path.{_≡_};
@@ -19,10 +19,10 @@ ghost use Rattle.heap.specs.Good.{Good, Rested};
 ghost use Rattle.heap.specs.State.{state};
 ghost use Rattle.heap.specs.Kinds.{framesIn};
 ghost use Rattle.heap.specs.Opens.{beside, newHeap, openingOf};
-ghost use Rattle.allocation.specs.Coroutines.{callOf};
-ghost use Rattle.record.specs.Record.{OpensWords, loaded, weightsIn};
+ghost use Rattle.heap_allocation.specs.Coroutines.{callOf};
+ghost use Rattle.heap_record.specs.Record.{OpensWords, loaded, weightsIn};
 ghost use Rattle.capi.specs.Record.{coroutineIn, cursorIn, cursorOut, shownIn, yes};
-ghost use Rattle.capi.specs.Promise.{Performs, Reads, ShowsList, Words, holds};
+ghost use Rattle.capi.specs.Promise.{Delivers, DeliversSame, ShowsList, Words, holds};
 
 // ---- the words lent
 
@@ -82,7 +82,7 @@ fn save_cursor(words: &mut [u64; 4], s: Shown)
 pub extern "C" fn mch_truth_word(b: u64, answer: &mut [u64; 6]) -> u64
     ensures { λ r. ⌜ Words (Calls.truth-word (yes b)) r (now (answer .exit)) ⌝ }
 {
-    write_answer(answer, commands::number(words::from_bool(b != 0)))
+    write_answer(answer, answers::number(words::from_bool(b != 0)))
 }
 
 // The word of a character.
@@ -90,7 +90,7 @@ pub extern "C" fn mch_truth_word(b: u64, answer: &mut [u64; 6]) -> u64
 pub extern "C" fn mch_char_word(c: u32, answer: &mut [u64; 6]) -> u64
     ensures { λ r. ⌜ Words (Calls.char-word c) r (now (answer .exit)) ⌝ }
 {
-    write_answer(answer, commands::number(words::from_char(c)))
+    write_answer(answer, answers::number(words::from_char(c)))
 }
 
 // The word of the float of a binary64 pattern; every NaN has one word.
@@ -99,7 +99,7 @@ pub extern "C" fn mch_float_word(bits: u64, answer: &mut [u64; 6]) -> u64
     ensures { λ r. ⌜ Words (Calls.float-word (ofBits binary64 bits)) r (now (answer .exit)) ⌝ }
 {
     let f = words::float_of_bits(bits);
-    write_answer(answer, commands::number(words::from_f64(f)))
+    write_answer(answer, answers::number(words::from_f64(f)))
 }
 
 // The word of an integer, where it has one inline.
@@ -108,7 +108,7 @@ pub extern "C" fn mch_integer_word(z: i64, answer: &mut [u64; 6]) -> u64
     ensures { λ r. ⌜ Words (Calls.integer-word z) r (now (answer .exit)) ⌝ }
 {
     let w = words::inline_int(z);
-    write_answer(answer, commands::inline(w))
+    write_answer(answer, answers::inline(w))
 }
 
 // The word of a reference.
@@ -116,7 +116,7 @@ pub extern "C" fn mch_integer_word(z: i64, answer: &mut [u64; 6]) -> u64
 pub extern "C" fn mch_reference_word(slot: u32, tag: u16, answer: &mut [u64; 6]) -> u64
     ensures { λ r. ⌜ Words (Calls.reference-word slot tag) r (now (answer .exit)) ⌝ }
 {
-    write_answer(answer, commands::number(words::from_ref(slot, tag)))
+    write_answer(answer, answers::number(words::from_ref(slot, tag)))
 }
 
 // What a word reads as.
@@ -125,7 +125,7 @@ pub extern "C" fn mch_read_word(w: u64, answer: &mut [u64; 6]) -> u64
     ensures { λ r. ⌜ Words (Calls.read-word w) r (now (answer .exit)) ⌝ }
 {
     let a = words::decode(w);
-    write_answer(answer, commands::raw(a))
+    write_answer(answer, answers::raw(a))
 }
 
 // Whether two words read as the same.
@@ -133,7 +133,7 @@ pub extern "C" fn mch_read_word(w: u64, answer: &mut [u64; 6]) -> u64
 pub extern "C" fn mch_same_words(a: u64, b: u64, answer: &mut [u64; 6]) -> u64
     ensures { λ r. ⌜ Words (Calls.same-words a b) r (now (answer .exit)) ⌝ }
 {
-    write_answer(answer, commands::flag(words::same(a, b)))
+    write_answer(answer, answers::flag(words::same(a, b)))
 }
 
 // ---- the heap as a whole
@@ -158,7 +158,7 @@ pub extern "C" fn mch_open(
 ) -> u64
     ensures { λ r. ⌜ OpensWords (openingOf size (length (now (cells .entry))) limit (weightsIn (now (weights .entry))) (now (layout .entry))) (state (newHeap size limit (weightsIn (now (weights .entry)))) (now (slots .entry)) (now (scalars .entry)) (now (list .entry)) (now (directory .entry)) (now (cells .entry))) (beside (now (table .entry)) (now (marks .entry)) (now (order .entry))) (now (heap .entry)) r (now (heap .exit)) (beside (now (table .exit)) (now (marks .exit)) (now (order .exit))) ⌝ }
 {
-    record::open(
+    heap_record::open(
         heap,
         size,
         limit,
@@ -188,14 +188,14 @@ pub extern "C" fn mch_charge(
     answer: &mut [u64; 6],
 ) -> u64
     requires { ⌜ Good (holds (now heap) (now slots) (now scalars) (now list) (now directory) (now cells)) ⌝ }
-    ensures { λ r. ⌜ Performs (Calls.charge bytes) (holds (now (heap .entry)) (now (slots .entry)) (now (scalars .entry)) (now (list .entry)) (now (directory .entry)) (now (cells .entry))) r (now (answer .exit)) (holds (now (heap .exit)) (now (slots .entry)) (now (scalars .entry)) (now (list .entry)) (now (directory .entry)) (now (cells .entry))) ⌝ }
+    ensures { λ r. ⌜ Delivers (Calls.charge bytes) (holds (now (heap .entry)) (now (slots .entry)) (now (scalars .entry)) (now (list .entry)) (now (directory .entry)) (now (cells .entry))) r (now (answer .exit)) (holds (now (heap .exit)) (now (slots .entry)) (now (scalars .entry)) (now (list .entry)) (now (directory .entry)) (now (cells .entry))) ⌝ }
 {
-    let h = record::load(heap);
+    let h = heap_record::load(heap);
     let a = heap::charge(h, slots, scalars, list, directory, cells, bytes);
     let next = a.heap;
-    record::save(heap, next);
+    heap_record::save(heap, next);
     let done = a.done;
-    write_answer(answer, commands::done(done))
+    write_answer(answer, answers::done(done))
 }
 
 // Whether a charge of `bytes` would be accepted.
@@ -211,11 +211,11 @@ pub extern "C" fn mch_fits(
     answer: &mut [u64; 6],
 ) -> u64
     requires { ⌜ Good (holds (now heap) (now slots) (now scalars) (now list) (now directory) (now cells)) ⌝ }
-    ensures { λ r. ⌜ Reads (Calls.fits-bytes bytes) (holds (now (heap .entry)) (now (slots .entry)) (now (scalars .entry)) (now (list .entry)) (now (directory .entry)) (now (cells .entry))) r (now (answer .exit)) ⌝ }
+    ensures { λ r. ⌜ DeliversSame (Calls.fits-bytes bytes) (holds (now (heap .entry)) (now (slots .entry)) (now (scalars .entry)) (now (list .entry)) (now (directory .entry)) (now (cells .entry))) r (now (answer .exit)) ⌝ }
 {
-    let h = record::load(heap);
+    let h = heap_record::load(heap);
     let a = heap::fits(h, slots, scalars, list, directory, cells, bytes);
-    write_answer(answer, commands::flag(a))
+    write_answer(answer, answers::flag(a))
 }
 
 // Whether a collection is due before `extra` bytes more.
@@ -231,11 +231,11 @@ pub extern "C" fn mch_wants_gc(
     answer: &mut [u64; 6],
 ) -> u64
     requires { ⌜ Good (holds (now heap) (now slots) (now scalars) (now list) (now directory) (now cells)) ⌝ }
-    ensures { λ r. ⌜ Reads (Calls.wants-gc extra) (holds (now (heap .entry)) (now (slots .entry)) (now (scalars .entry)) (now (list .entry)) (now (directory .entry)) (now (cells .entry))) r (now (answer .exit)) ⌝ }
+    ensures { λ r. ⌜ DeliversSame (Calls.wants-gc extra) (holds (now (heap .entry)) (now (slots .entry)) (now (scalars .entry)) (now (list .entry)) (now (directory .entry)) (now (cells .entry))) r (now (answer .exit)) ⌝ }
 {
-    let h = record::load(heap);
+    let h = heap_record::load(heap);
     let a = heap::wants_gc(h, slots, scalars, list, directory, cells, extra);
-    write_answer(answer, commands::flag(a))
+    write_answer(answer, answers::flag(a))
 }
 
 // How many collections there have been.
@@ -250,11 +250,11 @@ pub extern "C" fn mch_collection_count(
     answer: &mut [u64; 6],
 ) -> u64
     requires { ⌜ Good (holds (now heap) (now slots) (now scalars) (now list) (now directory) (now cells)) ⌝ }
-    ensures { λ r. ⌜ Reads Calls.collection-count (holds (now (heap .entry)) (now (slots .entry)) (now (scalars .entry)) (now (list .entry)) (now (directory .entry)) (now (cells .entry))) r (now (answer .exit)) ⌝ }
+    ensures { λ r. ⌜ DeliversSame Calls.collection-count (holds (now (heap .entry)) (now (slots .entry)) (now (scalars .entry)) (now (list .entry)) (now (directory .entry)) (now (cells .entry))) r (now (answer .exit)) ⌝ }
 {
-    let h = record::load(heap);
+    let h = heap_record::load(heap);
     let a = heap::collection_count(h, slots, scalars, list, directory, cells);
-    write_answer(answer, commands::number(a))
+    write_answer(answer, answers::number(a))
 }
 
 // How many objects the collections have freed.
@@ -269,11 +269,11 @@ pub extern "C" fn mch_freed_count(
     answer: &mut [u64; 6],
 ) -> u64
     requires { ⌜ Good (holds (now heap) (now slots) (now scalars) (now list) (now directory) (now cells)) ⌝ }
-    ensures { λ r. ⌜ Reads Calls.freed-count (holds (now (heap .entry)) (now (slots .entry)) (now (scalars .entry)) (now (list .entry)) (now (directory .entry)) (now (cells .entry))) r (now (answer .exit)) ⌝ }
+    ensures { λ r. ⌜ DeliversSame Calls.freed-count (holds (now (heap .entry)) (now (slots .entry)) (now (scalars .entry)) (now (list .entry)) (now (directory .entry)) (now (cells .entry))) r (now (answer .exit)) ⌝ }
 {
-    let h = record::load(heap);
+    let h = heap_record::load(heap);
     let a = heap::freed_count(h, slots, scalars, list, directory, cells);
-    write_answer(answer, commands::number(a))
+    write_answer(answer, answers::number(a))
 }
 
 // The bytes charged and not freed.
@@ -288,11 +288,11 @@ pub extern "C" fn mch_used_bytes(
     answer: &mut [u64; 6],
 ) -> u64
     requires { ⌜ Good (holds (now heap) (now slots) (now scalars) (now list) (now directory) (now cells)) ⌝ }
-    ensures { λ r. ⌜ Reads Calls.used-bytes (holds (now (heap .entry)) (now (slots .entry)) (now (scalars .entry)) (now (list .entry)) (now (directory .entry)) (now (cells .entry))) r (now (answer .exit)) ⌝ }
+    ensures { λ r. ⌜ DeliversSame Calls.used-bytes (holds (now (heap .entry)) (now (slots .entry)) (now (scalars .entry)) (now (list .entry)) (now (directory .entry)) (now (cells .entry))) r (now (answer .exit)) ⌝ }
 {
-    let h = record::load(heap);
+    let h = heap_record::load(heap);
     let a = heap::used_bytes(h, slots, scalars, list, directory, cells);
-    write_answer(answer, commands::number(a))
+    write_answer(answer, answers::number(a))
 }
 
 // How many objects are present.
@@ -307,11 +307,11 @@ pub extern "C" fn mch_present_count(
     answer: &mut [u64; 6],
 ) -> u64
     requires { ⌜ Good (holds (now heap) (now slots) (now scalars) (now list) (now directory) (now cells)) ⌝ }
-    ensures { λ r. ⌜ Reads Calls.present-count (holds (now (heap .entry)) (now (slots .entry)) (now (scalars .entry)) (now (list .entry)) (now (directory .entry)) (now (cells .entry))) r (now (answer .exit)) ⌝ }
+    ensures { λ r. ⌜ DeliversSame Calls.present-count (holds (now (heap .entry)) (now (slots .entry)) (now (scalars .entry)) (now (list .entry)) (now (directory .entry)) (now (cells .entry))) r (now (answer .exit)) ⌝ }
 {
-    let h = record::load(heap);
+    let h = heap_record::load(heap);
     let a = heap::present_count(h, slots, scalars, list, directory, cells);
-    write_answer(answer, commands::number(a))
+    write_answer(answer, answers::number(a))
 }
 
 // The cells of the objects present.
@@ -326,11 +326,11 @@ pub extern "C" fn mch_cells_in_use(
     answer: &mut [u64; 6],
 ) -> u64
     requires { ⌜ Good (holds (now heap) (now slots) (now scalars) (now list) (now directory) (now cells)) ⌝ }
-    ensures { λ r. ⌜ Reads Calls.cells-in-use (holds (now (heap .entry)) (now (slots .entry)) (now (scalars .entry)) (now (list .entry)) (now (directory .entry)) (now (cells .entry))) r (now (answer .exit)) ⌝ }
+    ensures { λ r. ⌜ DeliversSame Calls.cells-in-use (holds (now (heap .entry)) (now (slots .entry)) (now (scalars .entry)) (now (list .entry)) (now (directory .entry)) (now (cells .entry))) r (now (answer .exit)) ⌝ }
 {
-    let h = record::load(heap);
+    let h = heap_record::load(heap);
     let a = heap::cells_in_use(h, slots, scalars, list, directory, cells);
-    write_answer(answer, commands::number(a))
+    write_answer(answer, answers::number(a))
 }
 
 // A collection from these roots: answers the objects freed and the coroutines listed in `places`.
@@ -357,7 +357,7 @@ pub extern "C" fn mch_collect(
     ensures { λ r. ⌜ now (marks .exit) ≡ now (marks .entry) ⌝ }
     ensures { λ r. ⌜ now (order .exit) ≡ now (order .entry) ⌝ }
 {
-    let h = record::load(heap);
+    let h = heap_record::load(heap);
     let a = collector::collect(
         h,
         slots,
@@ -373,9 +373,9 @@ pub extern "C" fn mch_collect(
         places,
     );
     let next = a.heap;
-    record::save(heap, next);
+    heap_record::save(heap, next);
     let collection = a.answer;
-    write_answer(answer, commands::collected(collection))
+    write_answer(answer, answers::collected(collection))
 }
 
 // ---- new objects: each answers the reference made
@@ -393,14 +393,14 @@ pub extern "C" fn mch_new_string(
     answer: &mut [u64; 6],
 ) -> u64
     requires { ⌜ Good (holds (now heap) (now slots) (now scalars) (now list) (now directory) (now cells)) ⌝ }
-    ensures { λ r. ⌜ Performs (Calls.new-string (now (bytes .entry))) (holds (now (heap .entry)) (now (slots .entry)) (now (scalars .entry)) (now (list .entry)) (now (directory .entry)) (now (cells .entry))) r (now (answer .exit)) (holds (now (heap .exit)) (now (slots .exit)) (now (scalars .entry)) (now (list .entry)) (now (directory .exit)) (now (cells .exit))) ⌝ }
+    ensures { λ r. ⌜ Delivers (Calls.new-string (now (bytes .entry))) (holds (now (heap .entry)) (now (slots .entry)) (now (scalars .entry)) (now (list .entry)) (now (directory .entry)) (now (cells .entry))) r (now (answer .exit)) (holds (now (heap .exit)) (now (slots .exit)) (now (scalars .entry)) (now (list .entry)) (now (directory .exit)) (now (cells .exit))) ⌝ }
 {
-    let h = record::load(heap);
-    let a = allocation::new_string(h, slots, scalars, list, directory, cells, bytes);
+    let h = heap_record::load(heap);
+    let a = heap_allocation::new_string(h, slots, scalars, list, directory, cells, bytes);
     let next = a.heap;
-    record::save(heap, next);
+    heap_record::save(heap, next);
     let made = a.answer;
-    write_answer(answer, commands::made(made))
+    write_answer(answer, answers::made(made))
 }
 
 // An integer object.
@@ -416,14 +416,14 @@ pub extern "C" fn mch_new_integer(
     answer: &mut [u64; 6],
 ) -> u64
     requires { ⌜ Good (holds (now heap) (now slots) (now scalars) (now list) (now directory) (now cells)) ⌝ }
-    ensures { λ r. ⌜ Performs (Calls.new-integer z) (holds (now (heap .entry)) (now (slots .entry)) (now (scalars .entry)) (now (list .entry)) (now (directory .entry)) (now (cells .entry))) r (now (answer .exit)) (holds (now (heap .exit)) (now (slots .exit)) (now (scalars .entry)) (now (list .entry)) (now (directory .entry)) (now (cells .entry))) ⌝ }
+    ensures { λ r. ⌜ Delivers (Calls.new-integer z) (holds (now (heap .entry)) (now (slots .entry)) (now (scalars .entry)) (now (list .entry)) (now (directory .entry)) (now (cells .entry))) r (now (answer .exit)) (holds (now (heap .exit)) (now (slots .exit)) (now (scalars .entry)) (now (list .entry)) (now (directory .entry)) (now (cells .entry))) ⌝ }
 {
-    let h = record::load(heap);
-    let a = allocation::new_integer(h, slots, scalars, list, directory, cells, z);
+    let h = heap_record::load(heap);
+    let a = heap_allocation::new_integer(h, slots, scalars, list, directory, cells, z);
     let next = a.heap;
-    record::save(heap, next);
+    heap_record::save(heap, next);
     let made = a.answer;
-    write_answer(answer, commands::made(made))
+    write_answer(answer, answers::made(made))
 }
 
 // A cell of type `t` with the word `w`.
@@ -440,14 +440,14 @@ pub extern "C" fn mch_new_cell(
     answer: &mut [u64; 6],
 ) -> u64
     requires { ⌜ Good (holds (now heap) (now slots) (now scalars) (now list) (now directory) (now cells)) ⌝ }
-    ensures { λ r. ⌜ Performs (Calls.new-cell t w) (holds (now (heap .entry)) (now (slots .entry)) (now (scalars .entry)) (now (list .entry)) (now (directory .entry)) (now (cells .entry))) r (now (answer .exit)) (holds (now (heap .exit)) (now (slots .exit)) (now (scalars .entry)) (now (list .entry)) (now (directory .entry)) (now (cells .entry))) ⌝ }
+    ensures { λ r. ⌜ Delivers (Calls.new-cell t w) (holds (now (heap .entry)) (now (slots .entry)) (now (scalars .entry)) (now (list .entry)) (now (directory .entry)) (now (cells .entry))) r (now (answer .exit)) (holds (now (heap .exit)) (now (slots .exit)) (now (scalars .entry)) (now (list .entry)) (now (directory .entry)) (now (cells .entry))) ⌝ }
 {
-    let h = record::load(heap);
-    let a = allocation::new_cell(h, slots, scalars, list, directory, cells, t, w);
+    let h = heap_record::load(heap);
+    let a = heap_allocation::new_cell(h, slots, scalars, list, directory, cells, t, w);
     let next = a.heap;
-    record::save(heap, next);
+    heap_record::save(heap, next);
     let made = a.answer;
-    write_answer(answer, commands::made(made))
+    write_answer(answer, answers::made(made))
 }
 
 // An error of any 16-bit kind, with the word `w`.
@@ -464,14 +464,14 @@ pub extern "C" fn mch_new_error(
     answer: &mut [u64; 6],
 ) -> u64
     requires { ⌜ Good (holds (now heap) (now slots) (now scalars) (now list) (now directory) (now cells)) ⌝ }
-    ensures { λ r. ⌜ Performs (Calls.new-error kind w) (holds (now (heap .entry)) (now (slots .entry)) (now (scalars .entry)) (now (list .entry)) (now (directory .entry)) (now (cells .entry))) r (now (answer .exit)) (holds (now (heap .exit)) (now (slots .exit)) (now (scalars .entry)) (now (list .entry)) (now (directory .entry)) (now (cells .entry))) ⌝ }
+    ensures { λ r. ⌜ Delivers (Calls.new-error kind w) (holds (now (heap .entry)) (now (slots .entry)) (now (scalars .entry)) (now (list .entry)) (now (directory .entry)) (now (cells .entry))) r (now (answer .exit)) (holds (now (heap .exit)) (now (slots .exit)) (now (scalars .entry)) (now (list .entry)) (now (directory .entry)) (now (cells .entry))) ⌝ }
 {
-    let h = record::load(heap);
-    let a = allocation::new_error(h, slots, scalars, list, directory, cells, kind, w);
+    let h = heap_record::load(heap);
+    let a = heap_allocation::new_error(h, slots, scalars, list, directory, cells, kind, w);
     let next = a.heap;
-    record::save(heap, next);
+    heap_record::save(heap, next);
     let made = a.answer;
-    write_answer(answer, commands::made(made))
+    write_answer(answer, answers::made(made))
 }
 
 // A box with the word `w`.
@@ -487,14 +487,14 @@ pub extern "C" fn mch_new_box(
     answer: &mut [u64; 6],
 ) -> u64
     requires { ⌜ Good (holds (now heap) (now slots) (now scalars) (now list) (now directory) (now cells)) ⌝ }
-    ensures { λ r. ⌜ Performs (Calls.new-box w) (holds (now (heap .entry)) (now (slots .entry)) (now (scalars .entry)) (now (list .entry)) (now (directory .entry)) (now (cells .entry))) r (now (answer .exit)) (holds (now (heap .exit)) (now (slots .exit)) (now (scalars .entry)) (now (list .entry)) (now (directory .entry)) (now (cells .entry))) ⌝ }
+    ensures { λ r. ⌜ Delivers (Calls.new-box w) (holds (now (heap .entry)) (now (slots .entry)) (now (scalars .entry)) (now (list .entry)) (now (directory .entry)) (now (cells .entry))) r (now (answer .exit)) (holds (now (heap .exit)) (now (slots .exit)) (now (scalars .entry)) (now (list .entry)) (now (directory .entry)) (now (cells .entry))) ⌝ }
 {
-    let h = record::load(heap);
-    let a = allocation::new_box(h, slots, scalars, list, directory, cells, w);
+    let h = heap_record::load(heap);
+    let a = heap_allocation::new_box(h, slots, scalars, list, directory, cells, w);
     let next = a.heap;
-    record::save(heap, next);
+    heap_record::save(heap, next);
     let made = a.answer;
-    write_answer(answer, commands::made(made))
+    write_answer(answer, answers::made(made))
 }
 
 // An array of type `t` and so many nil items.
@@ -511,14 +511,14 @@ pub extern "C" fn mch_new_array(
     answer: &mut [u64; 6],
 ) -> u64
     requires { ⌜ Good (holds (now heap) (now slots) (now scalars) (now list) (now directory) (now cells)) ⌝ }
-    ensures { λ r. ⌜ Performs (Calls.new-array t length) (holds (now (heap .entry)) (now (slots .entry)) (now (scalars .entry)) (now (list .entry)) (now (directory .entry)) (now (cells .entry))) r (now (answer .exit)) (holds (now (heap .exit)) (now (slots .exit)) (now (scalars .entry)) (now (list .entry)) (now (directory .exit)) (now (cells .exit))) ⌝ }
+    ensures { λ r. ⌜ Delivers (Calls.new-array t length) (holds (now (heap .entry)) (now (slots .entry)) (now (scalars .entry)) (now (list .entry)) (now (directory .entry)) (now (cells .entry))) r (now (answer .exit)) (holds (now (heap .exit)) (now (slots .exit)) (now (scalars .entry)) (now (list .entry)) (now (directory .exit)) (now (cells .exit))) ⌝ }
 {
-    let h = record::load(heap);
-    let a = allocation::new_array(h, slots, scalars, list, directory, cells, t, length);
+    let h = heap_record::load(heap);
+    let a = heap_allocation::new_array(h, slots, scalars, list, directory, cells, t, length);
     let next = a.heap;
-    record::save(heap, next);
+    heap_record::save(heap, next);
     let made = a.answer;
-    write_answer(answer, commands::made(made))
+    write_answer(answer, answers::made(made))
 }
 
 // A map without entries, of these types of keys and values.
@@ -535,14 +535,23 @@ pub extern "C" fn mch_new_map(
     answer: &mut [u64; 6],
 ) -> u64
     requires { ⌜ Good (holds (now heap) (now slots) (now scalars) (now list) (now directory) (now cells)) ⌝ }
-    ensures { λ r. ⌜ Performs (Calls.new-map keys values) (holds (now (heap .entry)) (now (slots .entry)) (now (scalars .entry)) (now (list .entry)) (now (directory .entry)) (now (cells .entry))) r (now (answer .exit)) (holds (now (heap .exit)) (now (slots .exit)) (now (scalars .exit)) (now (list .entry)) (now (directory .entry)) (now (cells .entry))) ⌝ }
+    ensures { λ r. ⌜ Delivers (Calls.new-map keys values) (holds (now (heap .entry)) (now (slots .entry)) (now (scalars .entry)) (now (list .entry)) (now (directory .entry)) (now (cells .entry))) r (now (answer .exit)) (holds (now (heap .exit)) (now (slots .exit)) (now (scalars .exit)) (now (list .entry)) (now (directory .entry)) (now (cells .entry))) ⌝ }
 {
-    let h = record::load(heap);
-    let a = collections::new_map(h, slots, scalars, list, directory, cells, keys, values);
+    let h = heap_record::load(heap);
+    let a = collections_maps::changes::new_map(
+        h,
+        slots,
+        scalars,
+        list,
+        directory,
+        cells,
+        keys,
+        values,
+    );
     let next = a.heap;
-    record::save(heap, next);
+    heap_record::save(heap, next);
     let made = a.answer;
-    write_answer(answer, commands::made(made))
+    write_answer(answer, answers::made(made))
 }
 
 // A struct of type `number` with these fields.
@@ -559,14 +568,14 @@ pub extern "C" fn mch_new_struct(
     answer: &mut [u64; 6],
 ) -> u64
     requires { ⌜ Good (holds (now heap) (now slots) (now scalars) (now list) (now directory) (now cells)) ⌝ }
-    ensures { λ r. ⌜ Performs (Calls.new-struct number (now (fields .entry))) (holds (now (heap .entry)) (now (slots .entry)) (now (scalars .entry)) (now (list .entry)) (now (directory .entry)) (now (cells .entry))) r (now (answer .exit)) (holds (now (heap .exit)) (now (slots .exit)) (now (scalars .entry)) (now (list .entry)) (now (directory .exit)) (now (cells .exit))) ⌝ }
+    ensures { λ r. ⌜ Delivers (Calls.new-struct number (now (fields .entry))) (holds (now (heap .entry)) (now (slots .entry)) (now (scalars .entry)) (now (list .entry)) (now (directory .entry)) (now (cells .entry))) r (now (answer .exit)) (holds (now (heap .exit)) (now (slots .exit)) (now (scalars .entry)) (now (list .entry)) (now (directory .exit)) (now (cells .exit))) ⌝ }
 {
-    let h = record::load(heap);
-    let a = allocation::new_struct(h, slots, scalars, list, directory, cells, number, fields);
+    let h = heap_record::load(heap);
+    let a = heap_allocation::new_struct(h, slots, scalars, list, directory, cells, number, fields);
     let next = a.heap;
-    record::save(heap, next);
+    heap_record::save(heap, next);
     let made = a.answer;
-    write_answer(answer, commands::made(made))
+    write_answer(answer, answers::made(made))
 }
 
 // A function with these captures; an import where `import` is not 0.
@@ -584,10 +593,10 @@ pub extern "C" fn mch_new_function(
     answer: &mut [u64; 6],
 ) -> u64
     requires { ⌜ Good (holds (now heap) (now slots) (now scalars) (now list) (now directory) (now cells)) ⌝ }
-    ensures { λ r. ⌜ Performs (Calls.new-function (yes import) number (now (captures .entry))) (holds (now (heap .entry)) (now (slots .entry)) (now (scalars .entry)) (now (list .entry)) (now (directory .entry)) (now (cells .entry))) r (now (answer .exit)) (holds (now (heap .exit)) (now (slots .exit)) (now (scalars .entry)) (now (list .entry)) (now (directory .exit)) (now (cells .exit))) ⌝ }
+    ensures { λ r. ⌜ Delivers (Calls.new-function (yes import) number (now (captures .entry))) (holds (now (heap .entry)) (now (slots .entry)) (now (scalars .entry)) (now (list .entry)) (now (directory .entry)) (now (cells .entry))) r (now (answer .exit)) (holds (now (heap .exit)) (now (slots .exit)) (now (scalars .entry)) (now (list .entry)) (now (directory .exit)) (now (cells .exit))) ⌝ }
 {
-    let h = record::load(heap);
-    let a = allocation::new_function(
+    let h = heap_record::load(heap);
+    let a = heap_allocation::new_function(
         h,
         slots,
         scalars,
@@ -599,9 +608,9 @@ pub extern "C" fn mch_new_function(
         captures,
     );
     let next = a.heap;
-    record::save(heap, next);
+    heap_record::save(heap, next);
     let made = a.answer;
-    write_answer(answer, commands::made(made))
+    write_answer(answer, answers::made(made))
 }
 
 // An iterator over the array or map `source`.
@@ -617,14 +626,14 @@ pub extern "C" fn mch_new_iter(
     answer: &mut [u64; 6],
 ) -> u64
     requires { ⌜ Good (holds (now heap) (now slots) (now scalars) (now list) (now directory) (now cells)) ⌝ }
-    ensures { λ r. ⌜ Performs (Calls.new-iter source) (holds (now (heap .entry)) (now (slots .entry)) (now (scalars .entry)) (now (list .entry)) (now (directory .entry)) (now (cells .entry))) r (now (answer .exit)) (holds (now (heap .exit)) (now (slots .exit)) (now (scalars .exit)) (now (list .entry)) (now (directory .entry)) (now (cells .entry))) ⌝ }
+    ensures { λ r. ⌜ Delivers (Calls.new-iter source) (holds (now (heap .entry)) (now (slots .entry)) (now (scalars .entry)) (now (list .entry)) (now (directory .entry)) (now (cells .entry))) r (now (answer .exit)) (holds (now (heap .exit)) (now (slots .exit)) (now (scalars .exit)) (now (list .entry)) (now (directory .entry)) (now (cells .entry))) ⌝ }
 {
-    let h = record::load(heap);
-    let a = collections::new_iter(h, slots, scalars, list, directory, cells, source);
+    let h = heap_record::load(heap);
+    let a = collections_iterators::new_iter(h, slots, scalars, list, directory, cells, source);
     let next = a.heap;
-    record::save(heap, next);
+    heap_record::save(heap, next);
     let made = a.answer;
-    write_answer(answer, commands::made(made))
+    write_answer(answer, answers::made(made))
 }
 
 // A coroutine: `k` holds state, sequence, payload, key, result, signal; four words to a frame:
@@ -643,11 +652,11 @@ pub extern "C" fn mch_new_coroutine(
     answer: &mut [u64; 6],
 ) -> u64
     requires { ⌜ Good (holds (now heap) (now slots) (now scalars) (now list) (now directory) (now cells)) ⌝ }
-    ensures { λ r. ⌜ Performs (callOf (coroutineIn (now (k .entry))) (now (registers .entry)) (framesIn (now (frames .entry)) 0 (length (now (frames .entry)) / 4))) (holds (now (heap .entry)) (now (slots .entry)) (now (scalars .entry)) (now (list .entry)) (now (directory .entry)) (now (cells .entry))) r (now (answer .exit)) (holds (now (heap .exit)) (now (slots .exit)) (now (scalars .exit)) (now (list .entry)) (now (directory .exit)) (now (cells .exit))) ⌝ }
+    ensures { λ r. ⌜ Delivers (callOf (coroutineIn (now (k .entry))) (now (registers .entry)) (framesIn (now (frames .entry)) 0 (length (now (frames .entry)) / 4))) (holds (now (heap .entry)) (now (slots .entry)) (now (scalars .entry)) (now (list .entry)) (now (directory .entry)) (now (cells .entry))) r (now (answer .exit)) (holds (now (heap .exit)) (now (slots .exit)) (now (scalars .exit)) (now (list .entry)) (now (directory .exit)) (now (cells .exit))) ⌝ }
 {
-    let h = record::load(heap);
+    let h = heap_record::load(heap);
     let made_with = load_coroutine(k);
-    let a = allocation::new_coroutine_flat(
+    let a = heap_allocation::new_coroutine_flat(
         h,
         slots,
         scalars,
@@ -659,9 +668,9 @@ pub extern "C" fn mch_new_coroutine(
         frames,
     );
     let next = a.heap;
-    record::save(heap, next);
+    heap_record::save(heap, next);
     let made = a.answer;
-    write_answer(answer, commands::made(made))
+    write_answer(answer, answers::made(made))
 }
 
 // ---- readings
@@ -679,11 +688,11 @@ pub extern "C" fn mch_get(
     answer: &mut [u64; 6],
 ) -> u64
     requires { ⌜ Good (holds (now heap) (now slots) (now scalars) (now list) (now directory) (now cells)) ⌝ }
-    ensures { λ r. ⌜ Reads (Calls.get w) (holds (now (heap .entry)) (now (slots .entry)) (now (scalars .entry)) (now (list .entry)) (now (directory .entry)) (now (cells .entry))) r (now (answer .exit)) ⌝ }
+    ensures { λ r. ⌜ DeliversSame (Calls.get w) (holds (now (heap .entry)) (now (slots .entry)) (now (scalars .entry)) (now (list .entry)) (now (directory .entry)) (now (cells .entry))) r (now (answer .exit)) ⌝ }
 {
-    let h = record::load(heap);
+    let h = heap_record::load(heap);
     let a = heap::get(h, slots, scalars, list, directory, cells, w);
-    write_answer(answer, commands::number(a))
+    write_answer(answer, answers::number(a))
 }
 
 // A word seen through a box.
@@ -699,11 +708,11 @@ pub extern "C" fn mch_deref(
     answer: &mut [u64; 6],
 ) -> u64
     requires { ⌜ Good (holds (now heap) (now slots) (now scalars) (now list) (now directory) (now cells)) ⌝ }
-    ensures { λ r. ⌜ Reads (Calls.deref-word w) (holds (now (heap .entry)) (now (slots .entry)) (now (scalars .entry)) (now (list .entry)) (now (directory .entry)) (now (cells .entry))) r (now (answer .exit)) ⌝ }
+    ensures { λ r. ⌜ DeliversSame (Calls.deref-word w) (holds (now (heap .entry)) (now (slots .entry)) (now (scalars .entry)) (now (list .entry)) (now (directory .entry)) (now (cells .entry))) r (now (answer .exit)) ⌝ }
 {
-    let h = record::load(heap);
+    let h = heap_record::load(heap);
     let a = heap::deref(h, slots, scalars, list, directory, cells, w);
-    write_answer(answer, commands::number(a))
+    write_answer(answer, answers::number(a))
 }
 
 // The number of a word's kind.
@@ -719,11 +728,11 @@ pub extern "C" fn mch_kind_of(
     answer: &mut [u64; 6],
 ) -> u64
     requires { ⌜ Good (holds (now heap) (now slots) (now scalars) (now list) (now directory) (now cells)) ⌝ }
-    ensures { λ r. ⌜ Reads (Calls.kind-of w) (holds (now (heap .entry)) (now (slots .entry)) (now (scalars .entry)) (now (list .entry)) (now (directory .entry)) (now (cells .entry))) r (now (answer .exit)) ⌝ }
+    ensures { λ r. ⌜ DeliversSame (Calls.kind-of w) (holds (now (heap .entry)) (now (slots .entry)) (now (scalars .entry)) (now (list .entry)) (now (directory .entry)) (now (cells .entry))) r (now (answer .exit)) ⌝ }
 {
-    let h = record::load(heap);
+    let h = heap_record::load(heap);
     let a = heap::kind_of(h, slots, scalars, list, directory, cells, w);
-    write_answer(answer, commands::kind(a))
+    write_answer(answer, answers::kind(a))
 }
 
 // The length of a string in bytes.
@@ -739,11 +748,11 @@ pub extern "C" fn mch_string_length(
     answer: &mut [u64; 6],
 ) -> u64
     requires { ⌜ Good (holds (now heap) (now slots) (now scalars) (now list) (now directory) (now cells)) ⌝ }
-    ensures { λ r. ⌜ Reads (Calls.string-length w) (holds (now (heap .entry)) (now (slots .entry)) (now (scalars .entry)) (now (list .entry)) (now (directory .entry)) (now (cells .entry))) r (now (answer .exit)) ⌝ }
+    ensures { λ r. ⌜ DeliversSame (Calls.string-length w) (holds (now (heap .entry)) (now (slots .entry)) (now (scalars .entry)) (now (list .entry)) (now (directory .entry)) (now (cells .entry))) r (now (answer .exit)) ⌝ }
 {
-    let h = record::load(heap);
-    let a = access::string_length(h, slots, scalars, list, directory, cells, w);
-    write_answer(answer, commands::reading(a))
+    let h = heap_record::load(heap);
+    let a = heap_access::readings::string_length(h, slots, scalars, list, directory, cells, w);
+    write_answer(answer, answers::reading(a))
 }
 
 // A string's bytes, in the buffer's first places; 8 where the buffer is shorter.
@@ -762,9 +771,18 @@ pub extern "C" fn mch_read_string(
     requires { ⌜ Good (holds (now heap) (now slots) (now scalars) (now list) (now directory) (now cells)) ⌝ }
     ensures { λ r. ⌜ ((l : Layout) → ShowsList l (Calls.read-string w (now (buffer .entry))) (holds (now (heap .entry)) (now (slots .entry)) (now (scalars .entry)) (now (list .entry)) (now (directory .entry)) (now (cells .entry))) (shownIn r (now (answer .exit))) (now (buffer .exit)) (holds (now (heap .entry)) (now (slots .entry)) (now (scalars .entry)) (now (list .entry)) (now (directory .entry)) (now (cells .entry)))) ⌝ }
 {
-    let h = record::load(heap);
-    let a = access::read_string(h, slots, scalars, list, directory, cells, w, buffer);
-    write_answer(answer, commands::reading(a))
+    let h = heap_record::load(heap);
+    let a = heap_access::readings::read_string(
+        h,
+        slots,
+        scalars,
+        list,
+        directory,
+        cells,
+        w,
+        buffer,
+    );
+    write_answer(answer, answers::reading(a))
 }
 
 // An integer object's number.
@@ -780,11 +798,11 @@ pub extern "C" fn mch_read_integer(
     answer: &mut [u64; 6],
 ) -> u64
     requires { ⌜ Good (holds (now heap) (now slots) (now scalars) (now list) (now directory) (now cells)) ⌝ }
-    ensures { λ r. ⌜ Reads (Calls.read-integer w) (holds (now (heap .entry)) (now (slots .entry)) (now (scalars .entry)) (now (list .entry)) (now (directory .entry)) (now (cells .entry))) r (now (answer .exit)) ⌝ }
+    ensures { λ r. ⌜ DeliversSame (Calls.read-integer w) (holds (now (heap .entry)) (now (slots .entry)) (now (scalars .entry)) (now (list .entry)) (now (directory .entry)) (now (cells .entry))) r (now (answer .exit)) ⌝ }
 {
-    let h = record::load(heap);
-    let a = access::read_integer(h, slots, scalars, list, directory, cells, w);
-    write_answer(answer, commands::signed(a))
+    let h = heap_record::load(heap);
+    let a = heap_access::readings::read_integer(h, slots, scalars, list, directory, cells, w);
+    write_answer(answer, answers::signed(a))
 }
 
 // A cell's word.
@@ -800,11 +818,11 @@ pub extern "C" fn mch_read_cell(
     answer: &mut [u64; 6],
 ) -> u64
     requires { ⌜ Good (holds (now heap) (now slots) (now scalars) (now list) (now directory) (now cells)) ⌝ }
-    ensures { λ r. ⌜ Reads (Calls.read-cell w) (holds (now (heap .entry)) (now (slots .entry)) (now (scalars .entry)) (now (list .entry)) (now (directory .entry)) (now (cells .entry))) r (now (answer .exit)) ⌝ }
+    ensures { λ r. ⌜ DeliversSame (Calls.read-cell w) (holds (now (heap .entry)) (now (slots .entry)) (now (scalars .entry)) (now (list .entry)) (now (directory .entry)) (now (cells .entry))) r (now (answer .exit)) ⌝ }
 {
-    let h = record::load(heap);
-    let a = access::read_cell(h, slots, scalars, list, directory, cells, w);
-    write_answer(answer, commands::reading(a))
+    let h = heap_record::load(heap);
+    let a = heap_access::readings::read_cell(h, slots, scalars, list, directory, cells, w);
+    write_answer(answer, answers::reading(a))
 }
 
 // A cell's type.
@@ -820,11 +838,11 @@ pub extern "C" fn mch_cell_type(
     answer: &mut [u64; 6],
 ) -> u64
     requires { ⌜ Good (holds (now heap) (now slots) (now scalars) (now list) (now directory) (now cells)) ⌝ }
-    ensures { λ r. ⌜ Reads (Calls.cell-type w) (holds (now (heap .entry)) (now (slots .entry)) (now (scalars .entry)) (now (list .entry)) (now (directory .entry)) (now (cells .entry))) r (now (answer .exit)) ⌝ }
+    ensures { λ r. ⌜ DeliversSame (Calls.cell-type w) (holds (now (heap .entry)) (now (slots .entry)) (now (scalars .entry)) (now (list .entry)) (now (directory .entry)) (now (cells .entry))) r (now (answer .exit)) ⌝ }
 {
-    let h = record::load(heap);
-    let a = access::cell_type(h, slots, scalars, list, directory, cells, w);
-    write_answer(answer, commands::reading(a))
+    let h = heap_record::load(heap);
+    let a = heap_access::readings::cell_type(h, slots, scalars, list, directory, cells, w);
+    write_answer(answer, answers::reading(a))
 }
 
 // An error's kind.
@@ -840,11 +858,11 @@ pub extern "C" fn mch_error_kind(
     answer: &mut [u64; 6],
 ) -> u64
     requires { ⌜ Good (holds (now heap) (now slots) (now scalars) (now list) (now directory) (now cells)) ⌝ }
-    ensures { λ r. ⌜ Reads (Calls.error-kind w) (holds (now (heap .entry)) (now (slots .entry)) (now (scalars .entry)) (now (list .entry)) (now (directory .entry)) (now (cells .entry))) r (now (answer .exit)) ⌝ }
+    ensures { λ r. ⌜ DeliversSame (Calls.error-kind w) (holds (now (heap .entry)) (now (slots .entry)) (now (scalars .entry)) (now (list .entry)) (now (directory .entry)) (now (cells .entry))) r (now (answer .exit)) ⌝ }
 {
-    let h = record::load(heap);
-    let a = access::error_kind(h, slots, scalars, list, directory, cells, w);
-    write_answer(answer, commands::reading(a))
+    let h = heap_record::load(heap);
+    let a = heap_access::readings::error_kind(h, slots, scalars, list, directory, cells, w);
+    write_answer(answer, answers::reading(a))
 }
 
 // An error's word.
@@ -860,11 +878,11 @@ pub extern "C" fn mch_error_word(
     answer: &mut [u64; 6],
 ) -> u64
     requires { ⌜ Good (holds (now heap) (now slots) (now scalars) (now list) (now directory) (now cells)) ⌝ }
-    ensures { λ r. ⌜ Reads (Calls.error-word w) (holds (now (heap .entry)) (now (slots .entry)) (now (scalars .entry)) (now (list .entry)) (now (directory .entry)) (now (cells .entry))) r (now (answer .exit)) ⌝ }
+    ensures { λ r. ⌜ DeliversSame (Calls.error-word w) (holds (now (heap .entry)) (now (slots .entry)) (now (scalars .entry)) (now (list .entry)) (now (directory .entry)) (now (cells .entry))) r (now (answer .exit)) ⌝ }
 {
-    let h = record::load(heap);
-    let a = access::error_word(h, slots, scalars, list, directory, cells, w);
-    write_answer(answer, commands::reading(a))
+    let h = heap_record::load(heap);
+    let a = heap_access::readings::error_word(h, slots, scalars, list, directory, cells, w);
+    write_answer(answer, answers::reading(a))
 }
 
 // A box's word.
@@ -880,11 +898,11 @@ pub extern "C" fn mch_read_box(
     answer: &mut [u64; 6],
 ) -> u64
     requires { ⌜ Good (holds (now heap) (now slots) (now scalars) (now list) (now directory) (now cells)) ⌝ }
-    ensures { λ r. ⌜ Reads (Calls.read-box w) (holds (now (heap .entry)) (now (slots .entry)) (now (scalars .entry)) (now (list .entry)) (now (directory .entry)) (now (cells .entry))) r (now (answer .exit)) ⌝ }
+    ensures { λ r. ⌜ DeliversSame (Calls.read-box w) (holds (now (heap .entry)) (now (slots .entry)) (now (scalars .entry)) (now (list .entry)) (now (directory .entry)) (now (cells .entry))) r (now (answer .exit)) ⌝ }
 {
-    let h = record::load(heap);
-    let a = access::read_box(h, slots, scalars, list, directory, cells, w);
-    write_answer(answer, commands::reading(a))
+    let h = heap_record::load(heap);
+    let a = heap_access::readings::read_box(h, slots, scalars, list, directory, cells, w);
+    write_answer(answer, answers::reading(a))
 }
 
 // The type of an array's items.
@@ -900,11 +918,11 @@ pub extern "C" fn mch_array_type(
     answer: &mut [u64; 6],
 ) -> u64
     requires { ⌜ Good (holds (now heap) (now slots) (now scalars) (now list) (now directory) (now cells)) ⌝ }
-    ensures { λ r. ⌜ Reads (Calls.array-type w) (holds (now (heap .entry)) (now (slots .entry)) (now (scalars .entry)) (now (list .entry)) (now (directory .entry)) (now (cells .entry))) r (now (answer .exit)) ⌝ }
+    ensures { λ r. ⌜ DeliversSame (Calls.array-type w) (holds (now (heap .entry)) (now (slots .entry)) (now (scalars .entry)) (now (list .entry)) (now (directory .entry)) (now (cells .entry))) r (now (answer .exit)) ⌝ }
 {
-    let h = record::load(heap);
-    let a = access::array_type(h, slots, scalars, list, directory, cells, w);
-    write_answer(answer, commands::reading(a))
+    let h = heap_record::load(heap);
+    let a = heap_access::readings::array_type(h, slots, scalars, list, directory, cells, w);
+    write_answer(answer, answers::reading(a))
 }
 
 // The length of an array.
@@ -920,11 +938,11 @@ pub extern "C" fn mch_array_length(
     answer: &mut [u64; 6],
 ) -> u64
     requires { ⌜ Good (holds (now heap) (now slots) (now scalars) (now list) (now directory) (now cells)) ⌝ }
-    ensures { λ r. ⌜ Reads (Calls.array-length w) (holds (now (heap .entry)) (now (slots .entry)) (now (scalars .entry)) (now (list .entry)) (now (directory .entry)) (now (cells .entry))) r (now (answer .exit)) ⌝ }
+    ensures { λ r. ⌜ DeliversSame (Calls.array-length w) (holds (now (heap .entry)) (now (slots .entry)) (now (scalars .entry)) (now (list .entry)) (now (directory .entry)) (now (cells .entry))) r (now (answer .exit)) ⌝ }
 {
-    let h = record::load(heap);
-    let a = access::array_length(h, slots, scalars, list, directory, cells, w);
-    write_answer(answer, commands::reading(a))
+    let h = heap_record::load(heap);
+    let a = heap_access::readings::array_length(h, slots, scalars, list, directory, cells, w);
+    write_answer(answer, answers::reading(a))
 }
 
 // The capacity of an array.
@@ -940,11 +958,11 @@ pub extern "C" fn mch_array_capacity(
     answer: &mut [u64; 6],
 ) -> u64
     requires { ⌜ Good (holds (now heap) (now slots) (now scalars) (now list) (now directory) (now cells)) ⌝ }
-    ensures { λ r. ⌜ Reads (Calls.array-capacity w) (holds (now (heap .entry)) (now (slots .entry)) (now (scalars .entry)) (now (list .entry)) (now (directory .entry)) (now (cells .entry))) r (now (answer .exit)) ⌝ }
+    ensures { λ r. ⌜ DeliversSame (Calls.array-capacity w) (holds (now (heap .entry)) (now (slots .entry)) (now (scalars .entry)) (now (list .entry)) (now (directory .entry)) (now (cells .entry))) r (now (answer .exit)) ⌝ }
 {
-    let h = record::load(heap);
-    let a = access::array_capacity(h, slots, scalars, list, directory, cells, w);
-    write_answer(answer, commands::reading(a))
+    let h = heap_record::load(heap);
+    let a = heap_access::readings::array_capacity(h, slots, scalars, list, directory, cells, w);
+    write_answer(answer, answers::reading(a))
 }
 
 // Item `i` of an array, as it was stored.
@@ -961,11 +979,11 @@ pub extern "C" fn mch_read_item(
     answer: &mut [u64; 6],
 ) -> u64
     requires { ⌜ Good (holds (now heap) (now slots) (now scalars) (now list) (now directory) (now cells)) ⌝ }
-    ensures { λ r. ⌜ Reads (Calls.read-item w i) (holds (now (heap .entry)) (now (slots .entry)) (now (scalars .entry)) (now (list .entry)) (now (directory .entry)) (now (cells .entry))) r (now (answer .exit)) ⌝ }
+    ensures { λ r. ⌜ DeliversSame (Calls.read-item w i) (holds (now (heap .entry)) (now (slots .entry)) (now (scalars .entry)) (now (list .entry)) (now (directory .entry)) (now (cells .entry))) r (now (answer .exit)) ⌝ }
 {
-    let h = record::load(heap);
-    let a = access::read_item(h, slots, scalars, list, directory, cells, w, i);
-    write_answer(answer, commands::reading(a))
+    let h = heap_record::load(heap);
+    let a = heap_access::readings::read_item(h, slots, scalars, list, directory, cells, w, i);
+    write_answer(answer, answers::reading(a))
 }
 
 // A struct's type.
@@ -981,11 +999,11 @@ pub extern "C" fn mch_struct_number(
     answer: &mut [u64; 6],
 ) -> u64
     requires { ⌜ Good (holds (now heap) (now slots) (now scalars) (now list) (now directory) (now cells)) ⌝ }
-    ensures { λ r. ⌜ Reads (Calls.struct-number w) (holds (now (heap .entry)) (now (slots .entry)) (now (scalars .entry)) (now (list .entry)) (now (directory .entry)) (now (cells .entry))) r (now (answer .exit)) ⌝ }
+    ensures { λ r. ⌜ DeliversSame (Calls.struct-number w) (holds (now (heap .entry)) (now (slots .entry)) (now (scalars .entry)) (now (list .entry)) (now (directory .entry)) (now (cells .entry))) r (now (answer .exit)) ⌝ }
 {
-    let h = record::load(heap);
-    let a = access::struct_number(h, slots, scalars, list, directory, cells, w);
-    write_answer(answer, commands::reading(a))
+    let h = heap_record::load(heap);
+    let a = heap_access::readings::struct_number(h, slots, scalars, list, directory, cells, w);
+    write_answer(answer, answers::reading(a))
 }
 
 // How many fields a struct has.
@@ -1001,11 +1019,11 @@ pub extern "C" fn mch_field_count(
     answer: &mut [u64; 6],
 ) -> u64
     requires { ⌜ Good (holds (now heap) (now slots) (now scalars) (now list) (now directory) (now cells)) ⌝ }
-    ensures { λ r. ⌜ Reads (Calls.field-count w) (holds (now (heap .entry)) (now (slots .entry)) (now (scalars .entry)) (now (list .entry)) (now (directory .entry)) (now (cells .entry))) r (now (answer .exit)) ⌝ }
+    ensures { λ r. ⌜ DeliversSame (Calls.field-count w) (holds (now (heap .entry)) (now (slots .entry)) (now (scalars .entry)) (now (list .entry)) (now (directory .entry)) (now (cells .entry))) r (now (answer .exit)) ⌝ }
 {
-    let h = record::load(heap);
-    let a = access::field_count(h, slots, scalars, list, directory, cells, w);
-    write_answer(answer, commands::reading(a))
+    let h = heap_record::load(heap);
+    let a = heap_access::readings::field_count(h, slots, scalars, list, directory, cells, w);
+    write_answer(answer, answers::reading(a))
 }
 
 // Field `i` of a struct.
@@ -1022,11 +1040,11 @@ pub extern "C" fn mch_read_field(
     answer: &mut [u64; 6],
 ) -> u64
     requires { ⌜ Good (holds (now heap) (now slots) (now scalars) (now list) (now directory) (now cells)) ⌝ }
-    ensures { λ r. ⌜ Reads (Calls.read-field w i) (holds (now (heap .entry)) (now (slots .entry)) (now (scalars .entry)) (now (list .entry)) (now (directory .entry)) (now (cells .entry))) r (now (answer .exit)) ⌝ }
+    ensures { λ r. ⌜ DeliversSame (Calls.read-field w i) (holds (now (heap .entry)) (now (slots .entry)) (now (scalars .entry)) (now (list .entry)) (now (directory .entry)) (now (cells .entry))) r (now (answer .exit)) ⌝ }
 {
-    let h = record::load(heap);
-    let a = access::read_field(h, slots, scalars, list, directory, cells, w, i);
-    write_answer(answer, commands::reading(a))
+    let h = heap_record::load(heap);
+    let a = heap_access::readings::read_field(h, slots, scalars, list, directory, cells, w, i);
+    write_answer(answer, answers::reading(a))
 }
 
 // Whether a function is an import.
@@ -1042,11 +1060,11 @@ pub extern "C" fn mch_is_import(
     answer: &mut [u64; 6],
 ) -> u64
     requires { ⌜ Good (holds (now heap) (now slots) (now scalars) (now list) (now directory) (now cells)) ⌝ }
-    ensures { λ r. ⌜ Reads (Calls.is-import w) (holds (now (heap .entry)) (now (slots .entry)) (now (scalars .entry)) (now (list .entry)) (now (directory .entry)) (now (cells .entry))) r (now (answer .exit)) ⌝ }
+    ensures { λ r. ⌜ DeliversSame (Calls.is-import w) (holds (now (heap .entry)) (now (slots .entry)) (now (scalars .entry)) (now (list .entry)) (now (directory .entry)) (now (cells .entry))) r (now (answer .exit)) ⌝ }
 {
-    let h = record::load(heap);
-    let a = access::is_import(h, slots, scalars, list, directory, cells, w);
-    write_answer(answer, commands::test(a))
+    let h = heap_record::load(heap);
+    let a = heap_access::readings::is_import(h, slots, scalars, list, directory, cells, w);
+    write_answer(answer, answers::test(a))
 }
 
 // A function's number.
@@ -1062,11 +1080,11 @@ pub extern "C" fn mch_function_number(
     answer: &mut [u64; 6],
 ) -> u64
     requires { ⌜ Good (holds (now heap) (now slots) (now scalars) (now list) (now directory) (now cells)) ⌝ }
-    ensures { λ r. ⌜ Reads (Calls.function-number w) (holds (now (heap .entry)) (now (slots .entry)) (now (scalars .entry)) (now (list .entry)) (now (directory .entry)) (now (cells .entry))) r (now (answer .exit)) ⌝ }
+    ensures { λ r. ⌜ DeliversSame (Calls.function-number w) (holds (now (heap .entry)) (now (slots .entry)) (now (scalars .entry)) (now (list .entry)) (now (directory .entry)) (now (cells .entry))) r (now (answer .exit)) ⌝ }
 {
-    let h = record::load(heap);
-    let a = access::function_number(h, slots, scalars, list, directory, cells, w);
-    write_answer(answer, commands::reading(a))
+    let h = heap_record::load(heap);
+    let a = heap_access::readings::function_number(h, slots, scalars, list, directory, cells, w);
+    write_answer(answer, answers::reading(a))
 }
 
 // How many captures a function has.
@@ -1082,11 +1100,11 @@ pub extern "C" fn mch_capture_count(
     answer: &mut [u64; 6],
 ) -> u64
     requires { ⌜ Good (holds (now heap) (now slots) (now scalars) (now list) (now directory) (now cells)) ⌝ }
-    ensures { λ r. ⌜ Reads (Calls.capture-count w) (holds (now (heap .entry)) (now (slots .entry)) (now (scalars .entry)) (now (list .entry)) (now (directory .entry)) (now (cells .entry))) r (now (answer .exit)) ⌝ }
+    ensures { λ r. ⌜ DeliversSame (Calls.capture-count w) (holds (now (heap .entry)) (now (slots .entry)) (now (scalars .entry)) (now (list .entry)) (now (directory .entry)) (now (cells .entry))) r (now (answer .exit)) ⌝ }
 {
-    let h = record::load(heap);
-    let a = access::capture_count(h, slots, scalars, list, directory, cells, w);
-    write_answer(answer, commands::reading(a))
+    let h = heap_record::load(heap);
+    let a = heap_access::readings::capture_count(h, slots, scalars, list, directory, cells, w);
+    write_answer(answer, answers::reading(a))
 }
 
 // Capture `i` of a function.
@@ -1103,11 +1121,11 @@ pub extern "C" fn mch_read_capture(
     answer: &mut [u64; 6],
 ) -> u64
     requires { ⌜ Good (holds (now heap) (now slots) (now scalars) (now list) (now directory) (now cells)) ⌝ }
-    ensures { λ r. ⌜ Reads (Calls.read-capture w i) (holds (now (heap .entry)) (now (slots .entry)) (now (scalars .entry)) (now (list .entry)) (now (directory .entry)) (now (cells .entry))) r (now (answer .exit)) ⌝ }
+    ensures { λ r. ⌜ DeliversSame (Calls.read-capture w i) (holds (now (heap .entry)) (now (slots .entry)) (now (scalars .entry)) (now (list .entry)) (now (directory .entry)) (now (cells .entry))) r (now (answer .exit)) ⌝ }
 {
-    let h = record::load(heap);
-    let a = access::read_capture(h, slots, scalars, list, directory, cells, w, i);
-    write_answer(answer, commands::reading(a))
+    let h = heap_record::load(heap);
+    let a = heap_access::readings::read_capture(h, slots, scalars, list, directory, cells, w, i);
+    write_answer(answer, answers::reading(a))
 }
 
 // A coroutine's state.
@@ -1123,11 +1141,11 @@ pub extern "C" fn mch_read_state(
     answer: &mut [u64; 6],
 ) -> u64
     requires { ⌜ Good (holds (now heap) (now slots) (now scalars) (now list) (now directory) (now cells)) ⌝ }
-    ensures { λ r. ⌜ Reads (Calls.read-state w) (holds (now (heap .entry)) (now (slots .entry)) (now (scalars .entry)) (now (list .entry)) (now (directory .entry)) (now (cells .entry))) r (now (answer .exit)) ⌝ }
+    ensures { λ r. ⌜ DeliversSame (Calls.read-state w) (holds (now (heap .entry)) (now (slots .entry)) (now (scalars .entry)) (now (list .entry)) (now (directory .entry)) (now (cells .entry))) r (now (answer .exit)) ⌝ }
 {
-    let h = record::load(heap);
-    let a = access::read_state(h, slots, scalars, list, directory, cells, w);
-    write_answer(answer, commands::reading(a))
+    let h = heap_record::load(heap);
+    let a = heap_access::readings::read_state(h, slots, scalars, list, directory, cells, w);
+    write_answer(answer, answers::reading(a))
 }
 
 // A coroutine's payload.
@@ -1143,11 +1161,11 @@ pub extern "C" fn mch_read_payload(
     answer: &mut [u64; 6],
 ) -> u64
     requires { ⌜ Good (holds (now heap) (now slots) (now scalars) (now list) (now directory) (now cells)) ⌝ }
-    ensures { λ r. ⌜ Reads (Calls.read-part w Parts.payload) (holds (now (heap .entry)) (now (slots .entry)) (now (scalars .entry)) (now (list .entry)) (now (directory .entry)) (now (cells .entry))) r (now (answer .exit)) ⌝ }
+    ensures { λ r. ⌜ DeliversSame (Calls.read-part w Parts.payload) (holds (now (heap .entry)) (now (slots .entry)) (now (scalars .entry)) (now (list .entry)) (now (directory .entry)) (now (cells .entry))) r (now (answer .exit)) ⌝ }
 {
-    let h = record::load(heap);
-    let a = access::read_payload(h, slots, scalars, list, directory, cells, w);
-    write_answer(answer, commands::reading(a))
+    let h = heap_record::load(heap);
+    let a = heap_access::readings::read_payload(h, slots, scalars, list, directory, cells, w);
+    write_answer(answer, answers::reading(a))
 }
 
 // A coroutine's key.
@@ -1163,11 +1181,11 @@ pub extern "C" fn mch_read_key(
     answer: &mut [u64; 6],
 ) -> u64
     requires { ⌜ Good (holds (now heap) (now slots) (now scalars) (now list) (now directory) (now cells)) ⌝ }
-    ensures { λ r. ⌜ Reads (Calls.read-part w Parts.key) (holds (now (heap .entry)) (now (slots .entry)) (now (scalars .entry)) (now (list .entry)) (now (directory .entry)) (now (cells .entry))) r (now (answer .exit)) ⌝ }
+    ensures { λ r. ⌜ DeliversSame (Calls.read-part w Parts.key) (holds (now (heap .entry)) (now (slots .entry)) (now (scalars .entry)) (now (list .entry)) (now (directory .entry)) (now (cells .entry))) r (now (answer .exit)) ⌝ }
 {
-    let h = record::load(heap);
-    let a = access::read_key(h, slots, scalars, list, directory, cells, w);
-    write_answer(answer, commands::reading(a))
+    let h = heap_record::load(heap);
+    let a = heap_access::readings::read_key(h, slots, scalars, list, directory, cells, w);
+    write_answer(answer, answers::reading(a))
 }
 
 // A coroutine's result.
@@ -1183,11 +1201,11 @@ pub extern "C" fn mch_read_result(
     answer: &mut [u64; 6],
 ) -> u64
     requires { ⌜ Good (holds (now heap) (now slots) (now scalars) (now list) (now directory) (now cells)) ⌝ }
-    ensures { λ r. ⌜ Reads (Calls.read-part w Parts.result) (holds (now (heap .entry)) (now (slots .entry)) (now (scalars .entry)) (now (list .entry)) (now (directory .entry)) (now (cells .entry))) r (now (answer .exit)) ⌝ }
+    ensures { λ r. ⌜ DeliversSame (Calls.read-part w Parts.result) (holds (now (heap .entry)) (now (slots .entry)) (now (scalars .entry)) (now (list .entry)) (now (directory .entry)) (now (cells .entry))) r (now (answer .exit)) ⌝ }
 {
-    let h = record::load(heap);
-    let a = access::read_result(h, slots, scalars, list, directory, cells, w);
-    write_answer(answer, commands::reading(a))
+    let h = heap_record::load(heap);
+    let a = heap_access::readings::read_result(h, slots, scalars, list, directory, cells, w);
+    write_answer(answer, answers::reading(a))
 }
 
 // A coroutine's signal.
@@ -1203,11 +1221,11 @@ pub extern "C" fn mch_read_signal(
     answer: &mut [u64; 6],
 ) -> u64
     requires { ⌜ Good (holds (now heap) (now slots) (now scalars) (now list) (now directory) (now cells)) ⌝ }
-    ensures { λ r. ⌜ Reads (Calls.read-part w Parts.signal) (holds (now (heap .entry)) (now (slots .entry)) (now (scalars .entry)) (now (list .entry)) (now (directory .entry)) (now (cells .entry))) r (now (answer .exit)) ⌝ }
+    ensures { λ r. ⌜ DeliversSame (Calls.read-part w Parts.signal) (holds (now (heap .entry)) (now (slots .entry)) (now (scalars .entry)) (now (list .entry)) (now (directory .entry)) (now (cells .entry))) r (now (answer .exit)) ⌝ }
 {
-    let h = record::load(heap);
-    let a = access::read_signal(h, slots, scalars, list, directory, cells, w);
-    write_answer(answer, commands::reading(a))
+    let h = heap_record::load(heap);
+    let a = heap_access::readings::read_signal(h, slots, scalars, list, directory, cells, w);
+    write_answer(answer, answers::reading(a))
 }
 
 // A coroutine's sequence number.
@@ -1223,11 +1241,11 @@ pub extern "C" fn mch_coroutine_sequence(
     answer: &mut [u64; 6],
 ) -> u64
     requires { ⌜ Good (holds (now heap) (now slots) (now scalars) (now list) (now directory) (now cells)) ⌝ }
-    ensures { λ r. ⌜ Reads (Calls.coroutine-sequence w) (holds (now (heap .entry)) (now (slots .entry)) (now (scalars .entry)) (now (list .entry)) (now (directory .entry)) (now (cells .entry))) r (now (answer .exit)) ⌝ }
+    ensures { λ r. ⌜ DeliversSame (Calls.coroutine-sequence w) (holds (now (heap .entry)) (now (slots .entry)) (now (scalars .entry)) (now (list .entry)) (now (directory .entry)) (now (cells .entry))) r (now (answer .exit)) ⌝ }
 {
-    let h = record::load(heap);
-    let a = access::coroutine_sequence(h, slots, scalars, list, directory, cells, w);
-    write_answer(answer, commands::reading(a))
+    let h = heap_record::load(heap);
+    let a = heap_access::readings::coroutine_sequence(h, slots, scalars, list, directory, cells, w);
+    write_answer(answer, answers::reading(a))
 }
 
 // Whether a coroutine is finalized.
@@ -1243,11 +1261,19 @@ pub extern "C" fn mch_coroutine_finalized(
     answer: &mut [u64; 6],
 ) -> u64
     requires { ⌜ Good (holds (now heap) (now slots) (now scalars) (now list) (now directory) (now cells)) ⌝ }
-    ensures { λ r. ⌜ Reads (Calls.coroutine-finalized w) (holds (now (heap .entry)) (now (slots .entry)) (now (scalars .entry)) (now (list .entry)) (now (directory .entry)) (now (cells .entry))) r (now (answer .exit)) ⌝ }
+    ensures { λ r. ⌜ DeliversSame (Calls.coroutine-finalized w) (holds (now (heap .entry)) (now (slots .entry)) (now (scalars .entry)) (now (list .entry)) (now (directory .entry)) (now (cells .entry))) r (now (answer .exit)) ⌝ }
 {
-    let h = record::load(heap);
-    let a = access::coroutine_finalized(h, slots, scalars, list, directory, cells, w);
-    write_answer(answer, commands::test(a))
+    let h = heap_record::load(heap);
+    let a = heap_access::readings::coroutine_finalized(
+        h,
+        slots,
+        scalars,
+        list,
+        directory,
+        cells,
+        w,
+    );
+    write_answer(answer, answers::test(a))
 }
 
 // How many registers a coroutine has.
@@ -1263,11 +1289,11 @@ pub extern "C" fn mch_register_count(
     answer: &mut [u64; 6],
 ) -> u64
     requires { ⌜ Good (holds (now heap) (now slots) (now scalars) (now list) (now directory) (now cells)) ⌝ }
-    ensures { λ r. ⌜ Reads (Calls.register-count w) (holds (now (heap .entry)) (now (slots .entry)) (now (scalars .entry)) (now (list .entry)) (now (directory .entry)) (now (cells .entry))) r (now (answer .exit)) ⌝ }
+    ensures { λ r. ⌜ DeliversSame (Calls.register-count w) (holds (now (heap .entry)) (now (slots .entry)) (now (scalars .entry)) (now (list .entry)) (now (directory .entry)) (now (cells .entry))) r (now (answer .exit)) ⌝ }
 {
-    let h = record::load(heap);
-    let a = access::register_count(h, slots, scalars, list, directory, cells, w);
-    write_answer(answer, commands::reading(a))
+    let h = heap_record::load(heap);
+    let a = heap_access::readings::register_count(h, slots, scalars, list, directory, cells, w);
+    write_answer(answer, answers::reading(a))
 }
 
 // How many frames a coroutine has.
@@ -1283,11 +1309,11 @@ pub extern "C" fn mch_frame_count(
     answer: &mut [u64; 6],
 ) -> u64
     requires { ⌜ Good (holds (now heap) (now slots) (now scalars) (now list) (now directory) (now cells)) ⌝ }
-    ensures { λ r. ⌜ Reads (Calls.frame-count w) (holds (now (heap .entry)) (now (slots .entry)) (now (scalars .entry)) (now (list .entry)) (now (directory .entry)) (now (cells .entry))) r (now (answer .exit)) ⌝ }
+    ensures { λ r. ⌜ DeliversSame (Calls.frame-count w) (holds (now (heap .entry)) (now (slots .entry)) (now (scalars .entry)) (now (list .entry)) (now (directory .entry)) (now (cells .entry))) r (now (answer .exit)) ⌝ }
 {
-    let h = record::load(heap);
-    let a = access::frame_count(h, slots, scalars, list, directory, cells, w);
-    write_answer(answer, commands::reading(a))
+    let h = heap_record::load(heap);
+    let a = heap_access::readings::frame_count(h, slots, scalars, list, directory, cells, w);
+    write_answer(answer, answers::reading(a))
 }
 
 // Frame `i` of a coroutine.
@@ -1304,11 +1330,11 @@ pub extern "C" fn mch_read_frame(
     answer: &mut [u64; 6],
 ) -> u64
     requires { ⌜ Good (holds (now heap) (now slots) (now scalars) (now list) (now directory) (now cells)) ⌝ }
-    ensures { λ r. ⌜ Reads (Calls.read-frame w i) (holds (now (heap .entry)) (now (slots .entry)) (now (scalars .entry)) (now (list .entry)) (now (directory .entry)) (now (cells .entry))) r (now (answer .exit)) ⌝ }
+    ensures { λ r. ⌜ DeliversSame (Calls.read-frame w i) (holds (now (heap .entry)) (now (slots .entry)) (now (scalars .entry)) (now (list .entry)) (now (directory .entry)) (now (cells .entry))) r (now (answer .exit)) ⌝ }
 {
-    let h = record::load(heap);
-    let a = access::read_frame(h, slots, scalars, list, directory, cells, w, i);
-    write_answer(answer, commands::frame(a))
+    let h = heap_record::load(heap);
+    let a = heap_access::readings::read_frame(h, slots, scalars, list, directory, cells, w, i);
+    write_answer(answer, answers::frame(a))
 }
 
 // Register `i` of a coroutine.
@@ -1325,11 +1351,11 @@ pub extern "C" fn mch_read_register(
     answer: &mut [u64; 6],
 ) -> u64
     requires { ⌜ Good (holds (now heap) (now slots) (now scalars) (now list) (now directory) (now cells)) ⌝ }
-    ensures { λ r. ⌜ Reads (Calls.read-register w i) (holds (now (heap .entry)) (now (slots .entry)) (now (scalars .entry)) (now (list .entry)) (now (directory .entry)) (now (cells .entry))) r (now (answer .exit)) ⌝ }
+    ensures { λ r. ⌜ DeliversSame (Calls.read-register w i) (holds (now (heap .entry)) (now (slots .entry)) (now (scalars .entry)) (now (list .entry)) (now (directory .entry)) (now (cells .entry))) r (now (answer .exit)) ⌝ }
 {
-    let h = record::load(heap);
-    let a = access::read_register(h, slots, scalars, list, directory, cells, w, i);
-    write_answer(answer, commands::reading(a))
+    let h = heap_record::load(heap);
+    let a = heap_access::readings::read_register(h, slots, scalars, list, directory, cells, w, i);
+    write_answer(answer, answers::reading(a))
 }
 
 // ---- stores, and arrays that grow and shrink
@@ -1348,11 +1374,11 @@ pub extern "C" fn mch_store_cell(
     answer: &mut [u64; 6],
 ) -> u64
     requires { ⌜ Good (holds (now heap) (now slots) (now scalars) (now list) (now directory) (now cells)) ⌝ }
-    ensures { λ r. ⌜ Performs (Calls.store-cell w v) (holds (now (heap .entry)) (now (slots .entry)) (now (scalars .entry)) (now (list .entry)) (now (directory .entry)) (now (cells .entry))) r (now (answer .exit)) (holds (now (heap .entry)) (now (slots .exit)) (now (scalars .entry)) (now (list .entry)) (now (directory .entry)) (now (cells .entry))) ⌝ }
+    ensures { λ r. ⌜ Delivers (Calls.store-cell w v) (holds (now (heap .entry)) (now (slots .entry)) (now (scalars .entry)) (now (list .entry)) (now (directory .entry)) (now (cells .entry))) r (now (answer .exit)) (holds (now (heap .entry)) (now (slots .exit)) (now (scalars .entry)) (now (list .entry)) (now (directory .entry)) (now (cells .entry))) ⌝ }
 {
-    let h = record::load(heap);
-    let a = access::store_cell(h, slots, scalars, list, directory, cells, w, v);
-    write_answer(answer, commands::done(a))
+    let h = heap_record::load(heap);
+    let a = heap_access::stores::store_cell(h, slots, scalars, list, directory, cells, w, v);
+    write_answer(answer, answers::done(a))
 }
 
 // A new word for a box.
@@ -1369,11 +1395,11 @@ pub extern "C" fn mch_store_box(
     answer: &mut [u64; 6],
 ) -> u64
     requires { ⌜ Good (holds (now heap) (now slots) (now scalars) (now list) (now directory) (now cells)) ⌝ }
-    ensures { λ r. ⌜ Performs (Calls.store-box w v) (holds (now (heap .entry)) (now (slots .entry)) (now (scalars .entry)) (now (list .entry)) (now (directory .entry)) (now (cells .entry))) r (now (answer .exit)) (holds (now (heap .entry)) (now (slots .exit)) (now (scalars .entry)) (now (list .entry)) (now (directory .entry)) (now (cells .entry))) ⌝ }
+    ensures { λ r. ⌜ Delivers (Calls.store-box w v) (holds (now (heap .entry)) (now (slots .entry)) (now (scalars .entry)) (now (list .entry)) (now (directory .entry)) (now (cells .entry))) r (now (answer .exit)) (holds (now (heap .entry)) (now (slots .exit)) (now (scalars .entry)) (now (list .entry)) (now (directory .entry)) (now (cells .entry))) ⌝ }
 {
-    let h = record::load(heap);
-    let a = access::store_box(h, slots, scalars, list, directory, cells, w, v);
-    write_answer(answer, commands::done(a))
+    let h = heap_record::load(heap);
+    let a = heap_access::stores::store_box(h, slots, scalars, list, directory, cells, w, v);
+    write_answer(answer, answers::done(a))
 }
 
 // A new item at `i`; outside the length nothing changes.
@@ -1391,11 +1417,11 @@ pub extern "C" fn mch_store_item(
     answer: &mut [u64; 6],
 ) -> u64
     requires { ⌜ Good (holds (now heap) (now slots) (now scalars) (now list) (now directory) (now cells)) ⌝ }
-    ensures { λ r. ⌜ Performs (Calls.store-item w i v) (holds (now (heap .entry)) (now (slots .entry)) (now (scalars .entry)) (now (list .entry)) (now (directory .entry)) (now (cells .entry))) r (now (answer .exit)) (holds (now (heap .entry)) (now (slots .entry)) (now (scalars .entry)) (now (list .entry)) (now (directory .entry)) (now (cells .exit))) ⌝ }
+    ensures { λ r. ⌜ Delivers (Calls.store-item w i v) (holds (now (heap .entry)) (now (slots .entry)) (now (scalars .entry)) (now (list .entry)) (now (directory .entry)) (now (cells .entry))) r (now (answer .exit)) (holds (now (heap .entry)) (now (slots .entry)) (now (scalars .entry)) (now (list .entry)) (now (directory .entry)) (now (cells .exit))) ⌝ }
 {
-    let h = record::load(heap);
-    let a = access::store_item(h, slots, scalars, list, directory, cells, w, i, v);
-    write_answer(answer, commands::done(a))
+    let h = heap_record::load(heap);
+    let a = heap_access::stores::store_item(h, slots, scalars, list, directory, cells, w, i, v);
+    write_answer(answer, answers::done(a))
 }
 
 // An item behind the last of an array.
@@ -1412,14 +1438,14 @@ pub extern "C" fn mch_push(
     answer: &mut [u64; 6],
 ) -> u64
     requires { ⌜ Good (holds (now heap) (now slots) (now scalars) (now list) (now directory) (now cells)) ⌝ }
-    ensures { λ r. ⌜ Performs (Calls.push w v) (holds (now (heap .entry)) (now (slots .entry)) (now (scalars .entry)) (now (list .entry)) (now (directory .entry)) (now (cells .entry))) r (now (answer .exit)) (holds (now (heap .exit)) (now (slots .exit)) (now (scalars .entry)) (now (list .entry)) (now (directory .exit)) (now (cells .exit))) ⌝ }
+    ensures { λ r. ⌜ Delivers (Calls.push w v) (holds (now (heap .entry)) (now (slots .entry)) (now (scalars .entry)) (now (list .entry)) (now (directory .entry)) (now (cells .entry))) r (now (answer .exit)) (holds (now (heap .exit)) (now (slots .exit)) (now (scalars .entry)) (now (list .entry)) (now (directory .exit)) (now (cells .exit))) ⌝ }
 {
-    let h = record::load(heap);
-    let a = collections::push(h, slots, scalars, list, directory, cells, w, v);
+    let h = heap_record::load(heap);
+    let a = collections_arrays::push(h, slots, scalars, list, directory, cells, w, v);
     let next = a.heap;
-    record::save(heap, next);
+    heap_record::save(heap, next);
     let done = a.done;
-    write_answer(answer, commands::done(done))
+    write_answer(answer, answers::done(done))
 }
 
 // The last item of an array, taken off.
@@ -1435,11 +1461,11 @@ pub extern "C" fn mch_pop(
     answer: &mut [u64; 6],
 ) -> u64
     requires { ⌜ Good (holds (now heap) (now slots) (now scalars) (now list) (now directory) (now cells)) ⌝ }
-    ensures { λ r. ⌜ Performs (Calls.pop w) (holds (now (heap .entry)) (now (slots .entry)) (now (scalars .entry)) (now (list .entry)) (now (directory .entry)) (now (cells .entry))) r (now (answer .exit)) (holds (now (heap .entry)) (now (slots .exit)) (now (scalars .entry)) (now (list .entry)) (now (directory .entry)) (now (cells .entry))) ⌝ }
+    ensures { λ r. ⌜ Delivers (Calls.pop w) (holds (now (heap .entry)) (now (slots .entry)) (now (scalars .entry)) (now (list .entry)) (now (directory .entry)) (now (cells .entry))) r (now (answer .exit)) (holds (now (heap .entry)) (now (slots .exit)) (now (scalars .entry)) (now (list .entry)) (now (directory .entry)) (now (cells .entry))) ⌝ }
 {
-    let h = record::load(heap);
-    let a = collections::pop(h, slots, scalars, list, directory, cells, w);
-    write_answer(answer, commands::reading(a))
+    let h = heap_record::load(heap);
+    let a = collections_arrays::pop(h, slots, scalars, list, directory, cells, w);
+    write_answer(answer, answers::reading(a))
 }
 
 // A new word for field `i` of a struct.
@@ -1457,11 +1483,11 @@ pub extern "C" fn mch_store_field(
     answer: &mut [u64; 6],
 ) -> u64
     requires { ⌜ Good (holds (now heap) (now slots) (now scalars) (now list) (now directory) (now cells)) ⌝ }
-    ensures { λ r. ⌜ Performs (Calls.store-field w i v) (holds (now (heap .entry)) (now (slots .entry)) (now (scalars .entry)) (now (list .entry)) (now (directory .entry)) (now (cells .entry))) r (now (answer .exit)) (holds (now (heap .entry)) (now (slots .entry)) (now (scalars .entry)) (now (list .entry)) (now (directory .entry)) (now (cells .exit))) ⌝ }
+    ensures { λ r. ⌜ Delivers (Calls.store-field w i v) (holds (now (heap .entry)) (now (slots .entry)) (now (scalars .entry)) (now (list .entry)) (now (directory .entry)) (now (cells .entry))) r (now (answer .exit)) (holds (now (heap .entry)) (now (slots .entry)) (now (scalars .entry)) (now (list .entry)) (now (directory .entry)) (now (cells .exit))) ⌝ }
 {
-    let h = record::load(heap);
-    let a = access::store_field(h, slots, scalars, list, directory, cells, w, i, v);
-    write_answer(answer, commands::done(a))
+    let h = heap_record::load(heap);
+    let a = heap_access::stores::store_field(h, slots, scalars, list, directory, cells, w, i, v);
+    write_answer(answer, answers::done(a))
 }
 
 // A new word for capture `i` of a function.
@@ -1479,11 +1505,11 @@ pub extern "C" fn mch_store_capture(
     answer: &mut [u64; 6],
 ) -> u64
     requires { ⌜ Good (holds (now heap) (now slots) (now scalars) (now list) (now directory) (now cells)) ⌝ }
-    ensures { λ r. ⌜ Performs (Calls.store-capture w i v) (holds (now (heap .entry)) (now (slots .entry)) (now (scalars .entry)) (now (list .entry)) (now (directory .entry)) (now (cells .entry))) r (now (answer .exit)) (holds (now (heap .entry)) (now (slots .entry)) (now (scalars .entry)) (now (list .entry)) (now (directory .entry)) (now (cells .exit))) ⌝ }
+    ensures { λ r. ⌜ Delivers (Calls.store-capture w i v) (holds (now (heap .entry)) (now (slots .entry)) (now (scalars .entry)) (now (list .entry)) (now (directory .entry)) (now (cells .entry))) r (now (answer .exit)) (holds (now (heap .entry)) (now (slots .entry)) (now (scalars .entry)) (now (list .entry)) (now (directory .entry)) (now (cells .exit))) ⌝ }
 {
-    let h = record::load(heap);
-    let a = access::store_capture(h, slots, scalars, list, directory, cells, w, i, v);
-    write_answer(answer, commands::done(a))
+    let h = heap_record::load(heap);
+    let a = heap_access::stores::store_capture(h, slots, scalars, list, directory, cells, w, i, v);
+    write_answer(answer, answers::done(a))
 }
 
 // A new word for register `i` of a coroutine.
@@ -1501,11 +1527,11 @@ pub extern "C" fn mch_store_register(
     answer: &mut [u64; 6],
 ) -> u64
     requires { ⌜ Good (holds (now heap) (now slots) (now scalars) (now list) (now directory) (now cells)) ⌝ }
-    ensures { λ r. ⌜ Performs (Calls.store-register w i v) (holds (now (heap .entry)) (now (slots .entry)) (now (scalars .entry)) (now (list .entry)) (now (directory .entry)) (now (cells .entry))) r (now (answer .exit)) (holds (now (heap .entry)) (now (slots .entry)) (now (scalars .entry)) (now (list .entry)) (now (directory .entry)) (now (cells .exit))) ⌝ }
+    ensures { λ r. ⌜ Delivers (Calls.store-register w i v) (holds (now (heap .entry)) (now (slots .entry)) (now (scalars .entry)) (now (list .entry)) (now (directory .entry)) (now (cells .entry))) r (now (answer .exit)) (holds (now (heap .entry)) (now (slots .entry)) (now (scalars .entry)) (now (list .entry)) (now (directory .entry)) (now (cells .exit))) ⌝ }
 {
-    let h = record::load(heap);
-    let a = access::store_register(h, slots, scalars, list, directory, cells, w, i, v);
-    write_answer(answer, commands::done(a))
+    let h = heap_record::load(heap);
+    let a = heap_access::stores::store_register(h, slots, scalars, list, directory, cells, w, i, v);
+    write_answer(answer, answers::done(a))
 }
 
 // A new payload for a coroutine.
@@ -1522,11 +1548,11 @@ pub extern "C" fn mch_store_payload(
     answer: &mut [u64; 6],
 ) -> u64
     requires { ⌜ Good (holds (now heap) (now slots) (now scalars) (now list) (now directory) (now cells)) ⌝ }
-    ensures { λ r. ⌜ Performs (Calls.store-part w Parts.payload v) (holds (now (heap .entry)) (now (slots .entry)) (now (scalars .entry)) (now (list .entry)) (now (directory .entry)) (now (cells .entry))) r (now (answer .exit)) (holds (now (heap .entry)) (now (slots .entry)) (now (scalars .exit)) (now (list .entry)) (now (directory .entry)) (now (cells .entry))) ⌝ }
+    ensures { λ r. ⌜ Delivers (Calls.store-part w Parts.payload v) (holds (now (heap .entry)) (now (slots .entry)) (now (scalars .entry)) (now (list .entry)) (now (directory .entry)) (now (cells .entry))) r (now (answer .exit)) (holds (now (heap .entry)) (now (slots .entry)) (now (scalars .exit)) (now (list .entry)) (now (directory .entry)) (now (cells .entry))) ⌝ }
 {
-    let h = record::load(heap);
-    let a = access::store_payload(h, slots, scalars, list, directory, cells, w, v);
-    write_answer(answer, commands::done(a))
+    let h = heap_record::load(heap);
+    let a = heap_access::stores::store_payload(h, slots, scalars, list, directory, cells, w, v);
+    write_answer(answer, answers::done(a))
 }
 
 // A new key for a coroutine.
@@ -1543,11 +1569,11 @@ pub extern "C" fn mch_store_key(
     answer: &mut [u64; 6],
 ) -> u64
     requires { ⌜ Good (holds (now heap) (now slots) (now scalars) (now list) (now directory) (now cells)) ⌝ }
-    ensures { λ r. ⌜ Performs (Calls.store-part w Parts.key v) (holds (now (heap .entry)) (now (slots .entry)) (now (scalars .entry)) (now (list .entry)) (now (directory .entry)) (now (cells .entry))) r (now (answer .exit)) (holds (now (heap .entry)) (now (slots .entry)) (now (scalars .exit)) (now (list .entry)) (now (directory .entry)) (now (cells .entry))) ⌝ }
+    ensures { λ r. ⌜ Delivers (Calls.store-part w Parts.key v) (holds (now (heap .entry)) (now (slots .entry)) (now (scalars .entry)) (now (list .entry)) (now (directory .entry)) (now (cells .entry))) r (now (answer .exit)) (holds (now (heap .entry)) (now (slots .entry)) (now (scalars .exit)) (now (list .entry)) (now (directory .entry)) (now (cells .entry))) ⌝ }
 {
-    let h = record::load(heap);
-    let a = access::store_key(h, slots, scalars, list, directory, cells, w, v);
-    write_answer(answer, commands::done(a))
+    let h = heap_record::load(heap);
+    let a = heap_access::stores::store_key(h, slots, scalars, list, directory, cells, w, v);
+    write_answer(answer, answers::done(a))
 }
 
 // A new result for a coroutine.
@@ -1564,11 +1590,11 @@ pub extern "C" fn mch_store_result(
     answer: &mut [u64; 6],
 ) -> u64
     requires { ⌜ Good (holds (now heap) (now slots) (now scalars) (now list) (now directory) (now cells)) ⌝ }
-    ensures { λ r. ⌜ Performs (Calls.store-part w Parts.result v) (holds (now (heap .entry)) (now (slots .entry)) (now (scalars .entry)) (now (list .entry)) (now (directory .entry)) (now (cells .entry))) r (now (answer .exit)) (holds (now (heap .entry)) (now (slots .entry)) (now (scalars .exit)) (now (list .entry)) (now (directory .entry)) (now (cells .entry))) ⌝ }
+    ensures { λ r. ⌜ Delivers (Calls.store-part w Parts.result v) (holds (now (heap .entry)) (now (slots .entry)) (now (scalars .entry)) (now (list .entry)) (now (directory .entry)) (now (cells .entry))) r (now (answer .exit)) (holds (now (heap .entry)) (now (slots .entry)) (now (scalars .exit)) (now (list .entry)) (now (directory .entry)) (now (cells .entry))) ⌝ }
 {
-    let h = record::load(heap);
-    let a = access::store_result(h, slots, scalars, list, directory, cells, w, v);
-    write_answer(answer, commands::done(a))
+    let h = heap_record::load(heap);
+    let a = heap_access::stores::store_result(h, slots, scalars, list, directory, cells, w, v);
+    write_answer(answer, answers::done(a))
 }
 
 // A new signal for a coroutine.
@@ -1585,11 +1611,11 @@ pub extern "C" fn mch_store_signal(
     answer: &mut [u64; 6],
 ) -> u64
     requires { ⌜ Good (holds (now heap) (now slots) (now scalars) (now list) (now directory) (now cells)) ⌝ }
-    ensures { λ r. ⌜ Performs (Calls.store-part w Parts.signal v) (holds (now (heap .entry)) (now (slots .entry)) (now (scalars .entry)) (now (list .entry)) (now (directory .entry)) (now (cells .entry))) r (now (answer .exit)) (holds (now (heap .entry)) (now (slots .entry)) (now (scalars .exit)) (now (list .entry)) (now (directory .entry)) (now (cells .entry))) ⌝ }
+    ensures { λ r. ⌜ Delivers (Calls.store-part w Parts.signal v) (holds (now (heap .entry)) (now (slots .entry)) (now (scalars .entry)) (now (list .entry)) (now (directory .entry)) (now (cells .entry))) r (now (answer .exit)) (holds (now (heap .entry)) (now (slots .entry)) (now (scalars .exit)) (now (list .entry)) (now (directory .entry)) (now (cells .entry))) ⌝ }
 {
-    let h = record::load(heap);
-    let a = access::store_signal(h, slots, scalars, list, directory, cells, w, v);
-    write_answer(answer, commands::done(a))
+    let h = heap_record::load(heap);
+    let a = heap_access::stores::store_signal(h, slots, scalars, list, directory, cells, w, v);
+    write_answer(answer, answers::done(a))
 }
 
 // A new state for a coroutine.
@@ -1606,11 +1632,11 @@ pub extern "C" fn mch_set_state(
     answer: &mut [u64; 6],
 ) -> u64
     requires { ⌜ Good (holds (now heap) (now slots) (now scalars) (now list) (now directory) (now cells)) ⌝ }
-    ensures { λ r. ⌜ Performs (Calls.set-state w s) (holds (now (heap .entry)) (now (slots .entry)) (now (scalars .entry)) (now (list .entry)) (now (directory .entry)) (now (cells .entry))) r (now (answer .exit)) (holds (now (heap .entry)) (now (slots .exit)) (now (scalars .entry)) (now (list .entry)) (now (directory .entry)) (now (cells .entry))) ⌝ }
+    ensures { λ r. ⌜ Delivers (Calls.set-state w s) (holds (now (heap .entry)) (now (slots .entry)) (now (scalars .entry)) (now (list .entry)) (now (directory .entry)) (now (cells .entry))) r (now (answer .exit)) (holds (now (heap .entry)) (now (slots .exit)) (now (scalars .entry)) (now (list .entry)) (now (directory .entry)) (now (cells .entry))) ⌝ }
 {
-    let h = record::load(heap);
-    let a = access::set_state(h, slots, scalars, list, directory, cells, w, s);
-    write_answer(answer, commands::done(a))
+    let h = heap_record::load(heap);
+    let a = heap_access::stores::set_state(h, slots, scalars, list, directory, cells, w, s);
+    write_answer(answer, answers::done(a))
 }
 
 // ---- maps and iterators
@@ -1631,10 +1657,10 @@ pub extern "C" fn mch_put(
     answer: &mut [u64; 6],
 ) -> u64
     requires { ⌜ Good (holds (now heap) (now slots) (now scalars) (now list) (now directory) (now cells)) ⌝ }
-    ensures { λ r. ⌜ Performs (Calls.put w hash key value) (holds (now (heap .entry)) (now (slots .entry)) (now (scalars .entry)) (now (list .entry)) (now (directory .entry)) (now (cells .entry))) r (now (answer .exit)) (holds (now (heap .exit)) (now (slots .exit)) (now (scalars .exit)) (now (list .entry)) (now (directory .exit)) (now (cells .exit))) ⌝ }
+    ensures { λ r. ⌜ Delivers (Calls.put w hash key value) (holds (now (heap .entry)) (now (slots .entry)) (now (scalars .entry)) (now (list .entry)) (now (directory .entry)) (now (cells .entry))) r (now (answer .exit)) (holds (now (heap .exit)) (now (slots .exit)) (now (scalars .exit)) (now (list .entry)) (now (directory .exit)) (now (cells .exit))) ⌝ }
 {
-    let h = record::load(heap);
-    let a = collections::put(
+    let h = heap_record::load(heap);
+    let a = collections_maps::changes::put(
         h,
         slots,
         scalars,
@@ -1647,9 +1673,9 @@ pub extern "C" fn mch_put(
         value,
     );
     let next = a.heap;
-    record::save(heap, next);
+    heap_record::save(heap, next);
     let done = a.done;
-    write_answer(answer, commands::done(done))
+    write_answer(answer, answers::done(done))
 }
 
 // An entry added, whatever is there.
@@ -1668,10 +1694,10 @@ pub extern "C" fn mch_insert_entry(
     answer: &mut [u64; 6],
 ) -> u64
     requires { ⌜ Good (holds (now heap) (now slots) (now scalars) (now list) (now directory) (now cells)) ⌝ }
-    ensures { λ r. ⌜ Performs (Calls.insert-entry w hash key value) (holds (now (heap .entry)) (now (slots .entry)) (now (scalars .entry)) (now (list .entry)) (now (directory .entry)) (now (cells .entry))) r (now (answer .exit)) (holds (now (heap .exit)) (now (slots .exit)) (now (scalars .exit)) (now (list .entry)) (now (directory .exit)) (now (cells .exit))) ⌝ }
+    ensures { λ r. ⌜ Delivers (Calls.insert-entry w hash key value) (holds (now (heap .entry)) (now (slots .entry)) (now (scalars .entry)) (now (list .entry)) (now (directory .entry)) (now (cells .entry))) r (now (answer .exit)) (holds (now (heap .exit)) (now (slots .exit)) (now (scalars .exit)) (now (list .entry)) (now (directory .exit)) (now (cells .exit))) ⌝ }
 {
-    let h = record::load(heap);
-    let a = collections::insert_entry(
+    let h = heap_record::load(heap);
+    let a = collections_maps::changes::insert_entry(
         h,
         slots,
         scalars,
@@ -1684,9 +1710,9 @@ pub extern "C" fn mch_insert_entry(
         value,
     );
     let next = a.heap;
-    record::save(heap, next);
+    heap_record::save(heap, next);
     let done = a.done;
-    write_answer(answer, commands::done(done))
+    write_answer(answer, answers::done(done))
 }
 
 // The position of a key.
@@ -1704,11 +1730,21 @@ pub extern "C" fn mch_find(
     answer: &mut [u64; 6],
 ) -> u64
     requires { ⌜ Good (holds (now heap) (now slots) (now scalars) (now list) (now directory) (now cells)) ⌝ }
-    ensures { λ r. ⌜ Reads (Calls.find w hash key) (holds (now (heap .entry)) (now (slots .entry)) (now (scalars .entry)) (now (list .entry)) (now (directory .entry)) (now (cells .entry))) r (now (answer .exit)) ⌝ }
+    ensures { λ r. ⌜ DeliversSame (Calls.find w hash key) (holds (now (heap .entry)) (now (slots .entry)) (now (scalars .entry)) (now (list .entry)) (now (directory .entry)) (now (cells .entry))) r (now (answer .exit)) ⌝ }
 {
-    let h = record::load(heap);
-    let a = collections::find(h, slots, scalars, list, directory, cells, w, hash, key);
-    write_answer(answer, commands::perhaps(a))
+    let h = heap_record::load(heap);
+    let a = collections_maps::readings::find(
+        h,
+        slots,
+        scalars,
+        list,
+        directory,
+        cells,
+        w,
+        hash,
+        key,
+    );
+    write_answer(answer, answers::perhaps(a))
 }
 
 // The entry of a key removed.
@@ -1726,14 +1762,24 @@ pub extern "C" fn mch_remove(
     answer: &mut [u64; 6],
 ) -> u64
     requires { ⌜ Good (holds (now heap) (now slots) (now scalars) (now list) (now directory) (now cells)) ⌝ }
-    ensures { λ r. ⌜ Performs (Calls.remove w hash key) (holds (now (heap .entry)) (now (slots .entry)) (now (scalars .entry)) (now (list .entry)) (now (directory .entry)) (now (cells .entry))) r (now (answer .exit)) (holds (now (heap .exit)) (now (slots .exit)) (now (scalars .exit)) (now (list .entry)) (now (directory .exit)) (now (cells .exit))) ⌝ }
+    ensures { λ r. ⌜ Delivers (Calls.remove w hash key) (holds (now (heap .entry)) (now (slots .entry)) (now (scalars .entry)) (now (list .entry)) (now (directory .entry)) (now (cells .entry))) r (now (answer .exit)) (holds (now (heap .exit)) (now (slots .exit)) (now (scalars .exit)) (now (list .entry)) (now (directory .exit)) (now (cells .exit))) ⌝ }
 {
-    let h = record::load(heap);
-    let a = collections::remove(h, slots, scalars, list, directory, cells, w, hash, key);
+    let h = heap_record::load(heap);
+    let a = collections_maps::changes::remove(
+        h,
+        slots,
+        scalars,
+        list,
+        directory,
+        cells,
+        w,
+        hash,
+        key,
+    );
     let next = a.heap;
-    record::save(heap, next);
+    heap_record::save(heap, next);
     let done = a.done;
-    write_answer(answer, commands::done(done))
+    write_answer(answer, answers::done(done))
 }
 
 // The entry at a position removed.
@@ -1750,14 +1796,14 @@ pub extern "C" fn mch_remove_at(
     answer: &mut [u64; 6],
 ) -> u64
     requires { ⌜ Good (holds (now heap) (now slots) (now scalars) (now list) (now directory) (now cells)) ⌝ }
-    ensures { λ r. ⌜ Performs (Calls.remove-at w pos) (holds (now (heap .entry)) (now (slots .entry)) (now (scalars .entry)) (now (list .entry)) (now (directory .entry)) (now (cells .entry))) r (now (answer .exit)) (holds (now (heap .exit)) (now (slots .exit)) (now (scalars .exit)) (now (list .entry)) (now (directory .exit)) (now (cells .exit))) ⌝ }
+    ensures { λ r. ⌜ Delivers (Calls.remove-at w pos) (holds (now (heap .entry)) (now (slots .entry)) (now (scalars .entry)) (now (list .entry)) (now (directory .entry)) (now (cells .entry))) r (now (answer .exit)) (holds (now (heap .exit)) (now (slots .exit)) (now (scalars .exit)) (now (list .entry)) (now (directory .exit)) (now (cells .exit))) ⌝ }
 {
-    let h = record::load(heap);
-    let a = collections::remove_at(h, slots, scalars, list, directory, cells, w, pos);
+    let h = heap_record::load(heap);
+    let a = collections_maps::changes::remove_at(h, slots, scalars, list, directory, cells, w, pos);
     let next = a.heap;
-    record::save(heap, next);
+    heap_record::save(heap, next);
     let done = a.done;
-    write_answer(answer, commands::done(done))
+    write_answer(answer, answers::done(done))
 }
 
 // The entry at a position, live or dead.
@@ -1774,11 +1820,20 @@ pub extern "C" fn mch_read_entry(
     answer: &mut [u64; 6],
 ) -> u64
     requires { ⌜ Good (holds (now heap) (now slots) (now scalars) (now list) (now directory) (now cells)) ⌝ }
-    ensures { λ r. ⌜ Reads (Calls.read-entry w pos) (holds (now (heap .entry)) (now (slots .entry)) (now (scalars .entry)) (now (list .entry)) (now (directory .entry)) (now (cells .entry))) r (now (answer .exit)) ⌝ }
+    ensures { λ r. ⌜ DeliversSame (Calls.read-entry w pos) (holds (now (heap .entry)) (now (slots .entry)) (now (scalars .entry)) (now (list .entry)) (now (directory .entry)) (now (cells .entry))) r (now (answer .exit)) ⌝ }
 {
-    let h = record::load(heap);
-    let a = collections::read_entry(h, slots, scalars, list, directory, cells, w, pos);
-    write_answer(answer, commands::entry(a))
+    let h = heap_record::load(heap);
+    let a = collections_maps::readings::read_entry(
+        h,
+        slots,
+        scalars,
+        list,
+        directory,
+        cells,
+        w,
+        pos,
+    );
+    write_answer(answer, answers::entry(a))
 }
 
 // A new value at a position; outside nothing changes.
@@ -1796,11 +1851,21 @@ pub extern "C" fn mch_set_value(
     answer: &mut [u64; 6],
 ) -> u64
     requires { ⌜ Good (holds (now heap) (now slots) (now scalars) (now list) (now directory) (now cells)) ⌝ }
-    ensures { λ r. ⌜ Performs (Calls.set-value w pos v) (holds (now (heap .entry)) (now (slots .entry)) (now (scalars .entry)) (now (list .entry)) (now (directory .entry)) (now (cells .entry))) r (now (answer .exit)) (holds (now (heap .entry)) (now (slots .entry)) (now (scalars .entry)) (now (list .entry)) (now (directory .entry)) (now (cells .exit))) ⌝ }
+    ensures { λ r. ⌜ Delivers (Calls.set-value w pos v) (holds (now (heap .entry)) (now (slots .entry)) (now (scalars .entry)) (now (list .entry)) (now (directory .entry)) (now (cells .entry))) r (now (answer .exit)) (holds (now (heap .entry)) (now (slots .entry)) (now (scalars .entry)) (now (list .entry)) (now (directory .entry)) (now (cells .exit))) ⌝ }
 {
-    let h = record::load(heap);
-    let a = collections::set_value(h, slots, scalars, list, directory, cells, w, pos, v);
-    write_answer(answer, commands::done(a))
+    let h = heap_record::load(heap);
+    let a = collections_maps::changes::set_value(
+        h,
+        slots,
+        scalars,
+        list,
+        directory,
+        cells,
+        w,
+        pos,
+        v,
+    );
+    write_answer(answer, answers::done(a))
 }
 
 // The integer key `k` noted.
@@ -1817,11 +1882,11 @@ pub extern "C" fn mch_note(
     answer: &mut [u64; 6],
 ) -> u64
     requires { ⌜ Good (holds (now heap) (now slots) (now scalars) (now list) (now directory) (now cells)) ⌝ }
-    ensures { λ r. ⌜ Performs (Calls.note w k) (holds (now (heap .entry)) (now (slots .entry)) (now (scalars .entry)) (now (list .entry)) (now (directory .entry)) (now (cells .entry))) r (now (answer .exit)) (holds (now (heap .entry)) (now (slots .exit)) (now (scalars .exit)) (now (list .entry)) (now (directory .entry)) (now (cells .entry))) ⌝ }
+    ensures { λ r. ⌜ Delivers (Calls.note w k) (holds (now (heap .entry)) (now (slots .entry)) (now (scalars .entry)) (now (list .entry)) (now (directory .entry)) (now (cells .entry))) r (now (answer .exit)) (holds (now (heap .entry)) (now (slots .exit)) (now (scalars .exit)) (now (list .entry)) (now (directory .entry)) (now (cells .entry))) ⌝ }
 {
-    let h = record::load(heap);
-    let a = collections::note(h, slots, scalars, list, directory, cells, w, k);
-    write_answer(answer, commands::done(a))
+    let h = heap_record::load(heap);
+    let a = collections_maps::changes::note(h, slots, scalars, list, directory, cells, w, k);
+    write_answer(answer, answers::done(a))
 }
 
 // The integer key after the greatest noted one.
@@ -1837,11 +1902,11 @@ pub extern "C" fn mch_next_key(
     answer: &mut [u64; 6],
 ) -> u64
     requires { ⌜ Good (holds (now heap) (now slots) (now scalars) (now list) (now directory) (now cells)) ⌝ }
-    ensures { λ r. ⌜ Reads (Calls.next-key w) (holds (now (heap .entry)) (now (slots .entry)) (now (scalars .entry)) (now (list .entry)) (now (directory .entry)) (now (cells .entry))) r (now (answer .exit)) ⌝ }
+    ensures { λ r. ⌜ DeliversSame (Calls.next-key w) (holds (now (heap .entry)) (now (slots .entry)) (now (scalars .entry)) (now (list .entry)) (now (directory .entry)) (now (cells .entry))) r (now (answer .exit)) ⌝ }
 {
-    let h = record::load(heap);
-    let a = collections::next_key(h, slots, scalars, list, directory, cells, w);
-    write_answer(answer, commands::next_int(a))
+    let h = heap_record::load(heap);
+    let a = collections_maps::readings::next_key(h, slots, scalars, list, directory, cells, w);
+    write_answer(answer, answers::next_int(a))
 }
 
 // The greatest noted key.
@@ -1857,11 +1922,11 @@ pub extern "C" fn mch_noted_key(
     answer: &mut [u64; 6],
 ) -> u64
     requires { ⌜ Good (holds (now heap) (now slots) (now scalars) (now list) (now directory) (now cells)) ⌝ }
-    ensures { λ r. ⌜ Reads (Calls.noted-key w) (holds (now (heap .entry)) (now (slots .entry)) (now (scalars .entry)) (now (list .entry)) (now (directory .entry)) (now (cells .entry))) r (now (answer .exit)) ⌝ }
+    ensures { λ r. ⌜ DeliversSame (Calls.noted-key w) (holds (now (heap .entry)) (now (slots .entry)) (now (scalars .entry)) (now (list .entry)) (now (directory .entry)) (now (cells .entry))) r (now (answer .exit)) ⌝ }
 {
-    let h = record::load(heap);
-    let a = collections::noted_key(h, slots, scalars, list, directory, cells, w);
-    write_answer(answer, commands::noted(a))
+    let h = heap_record::load(heap);
+    let a = collections_maps::readings::noted_key(h, slots, scalars, list, directory, cells, w);
+    write_answer(answer, answers::noted(a))
 }
 
 // The next live entry's position, or the end. The lent cursor is yielded yet, last sequence
@@ -1879,13 +1944,13 @@ pub extern "C" fn mch_next(
     answer: &mut [u64; 6],
 ) -> u64
     requires { ⌜ Good (holds (now heap) (now slots) (now scalars) (now list) (now directory) (now cells)) ⌝ }
-    ensures { λ r. ⌜ Reads (Calls.next w (cursorIn (now (cursor .entry)))) (holds (now (heap .entry)) (now (slots .entry)) (now (scalars .entry)) (now (list .entry)) (now (directory .entry)) (now (cells .entry))) r (now (answer .exit)) ⌝ }
+    ensures { λ r. ⌜ DeliversSame (Calls.next w (cursorIn (now (cursor .entry)))) (holds (now (heap .entry)) (now (slots .entry)) (now (scalars .entry)) (now (list .entry)) (now (directory .entry)) (now (cells .entry))) r (now (answer .exit)) ⌝ }
     ensures { λ r. ⌜ now (cursor .exit) ≡ cursorOut (shownIn r (now (answer .exit))) (now (cursor .entry)) ⌝ }
 {
-    let h = record::load(heap);
+    let h = heap_record::load(heap);
     let c = load_cursor(cursor);
-    let a = collections::step_cursor(h, slots, scalars, list, directory, cells, w, c);
-    let s = commands::moved(c, a);
+    let a = collections_maps::step_cursor(h, slots, scalars, list, directory, cells, w, c);
+    let s = answers::moved(c, a);
     save_cursor(cursor, s);
     write_answer(answer, s)
 }
@@ -1903,11 +1968,11 @@ pub extern "C" fn mch_live_count(
     answer: &mut [u64; 6],
 ) -> u64
     requires { ⌜ Good (holds (now heap) (now slots) (now scalars) (now list) (now directory) (now cells)) ⌝ }
-    ensures { λ r. ⌜ Reads (Calls.live-count w) (holds (now (heap .entry)) (now (slots .entry)) (now (scalars .entry)) (now (list .entry)) (now (directory .entry)) (now (cells .entry))) r (now (answer .exit)) ⌝ }
+    ensures { λ r. ⌜ DeliversSame (Calls.live-count w) (holds (now (heap .entry)) (now (slots .entry)) (now (scalars .entry)) (now (list .entry)) (now (directory .entry)) (now (cells .entry))) r (now (answer .exit)) ⌝ }
 {
-    let h = record::load(heap);
-    let a = collections::live_count(h, slots, scalars, list, directory, cells, w);
-    write_answer(answer, commands::reading(a))
+    let h = heap_record::load(heap);
+    let a = collections_maps::readings::live_count(h, slots, scalars, list, directory, cells, w);
+    write_answer(answer, answers::reading(a))
 }
 
 // How many places a map has, dead ones included.
@@ -1923,11 +1988,11 @@ pub extern "C" fn mch_place_count(
     answer: &mut [u64; 6],
 ) -> u64
     requires { ⌜ Good (holds (now heap) (now slots) (now scalars) (now list) (now directory) (now cells)) ⌝ }
-    ensures { λ r. ⌜ Reads (Calls.place-count w) (holds (now (heap .entry)) (now (slots .entry)) (now (scalars .entry)) (now (list .entry)) (now (directory .entry)) (now (cells .entry))) r (now (answer .exit)) ⌝ }
+    ensures { λ r. ⌜ DeliversSame (Calls.place-count w) (holds (now (heap .entry)) (now (slots .entry)) (now (scalars .entry)) (now (list .entry)) (now (directory .entry)) (now (cells .entry))) r (now (answer .exit)) ⌝ }
 {
-    let h = record::load(heap);
-    let a = collections::place_count(h, slots, scalars, list, directory, cells, w);
-    write_answer(answer, commands::reading(a))
+    let h = heap_record::load(heap);
+    let a = collections_maps::readings::place_count(h, slots, scalars, list, directory, cells, w);
+    write_answer(answer, answers::reading(a))
 }
 
 // Whether a map is hashed.
@@ -1943,11 +2008,11 @@ pub extern "C" fn mch_is_hashed(
     answer: &mut [u64; 6],
 ) -> u64
     requires { ⌜ Good (holds (now heap) (now slots) (now scalars) (now list) (now directory) (now cells)) ⌝ }
-    ensures { λ r. ⌜ Reads (Calls.is-hashed w) (holds (now (heap .entry)) (now (slots .entry)) (now (scalars .entry)) (now (list .entry)) (now (directory .entry)) (now (cells .entry))) r (now (answer .exit)) ⌝ }
+    ensures { λ r. ⌜ DeliversSame (Calls.is-hashed w) (holds (now (heap .entry)) (now (slots .entry)) (now (scalars .entry)) (now (list .entry)) (now (directory .entry)) (now (cells .entry))) r (now (answer .exit)) ⌝ }
 {
-    let h = record::load(heap);
-    let a = collections::is_hashed(h, slots, scalars, list, directory, cells, w);
-    write_answer(answer, commands::test(a))
+    let h = heap_record::load(heap);
+    let a = collections_maps::readings::is_hashed(h, slots, scalars, list, directory, cells, w);
+    write_answer(answer, answers::test(a))
 }
 
 // The type of a map's keys.
@@ -1963,11 +2028,11 @@ pub extern "C" fn mch_key_type(
     answer: &mut [u64; 6],
 ) -> u64
     requires { ⌜ Good (holds (now heap) (now slots) (now scalars) (now list) (now directory) (now cells)) ⌝ }
-    ensures { λ r. ⌜ Reads (Calls.key-type w) (holds (now (heap .entry)) (now (slots .entry)) (now (scalars .entry)) (now (list .entry)) (now (directory .entry)) (now (cells .entry))) r (now (answer .exit)) ⌝ }
+    ensures { λ r. ⌜ DeliversSame (Calls.key-type w) (holds (now (heap .entry)) (now (slots .entry)) (now (scalars .entry)) (now (list .entry)) (now (directory .entry)) (now (cells .entry))) r (now (answer .exit)) ⌝ }
 {
-    let h = record::load(heap);
-    let a = collections::key_type(h, slots, scalars, list, directory, cells, w);
-    write_answer(answer, commands::reading(a))
+    let h = heap_record::load(heap);
+    let a = collections_maps::readings::key_type(h, slots, scalars, list, directory, cells, w);
+    write_answer(answer, answers::reading(a))
 }
 
 // The type of a map's values.
@@ -1983,11 +2048,11 @@ pub extern "C" fn mch_value_type(
     answer: &mut [u64; 6],
 ) -> u64
     requires { ⌜ Good (holds (now heap) (now slots) (now scalars) (now list) (now directory) (now cells)) ⌝ }
-    ensures { λ r. ⌜ Reads (Calls.value-type w) (holds (now (heap .entry)) (now (slots .entry)) (now (scalars .entry)) (now (list .entry)) (now (directory .entry)) (now (cells .entry))) r (now (answer .exit)) ⌝ }
+    ensures { λ r. ⌜ DeliversSame (Calls.value-type w) (holds (now (heap .entry)) (now (slots .entry)) (now (scalars .entry)) (now (list .entry)) (now (directory .entry)) (now (cells .entry))) r (now (answer .exit)) ⌝ }
 {
-    let h = record::load(heap);
-    let a = collections::value_type(h, slots, scalars, list, directory, cells, w);
-    write_answer(answer, commands::reading(a))
+    let h = heap_record::load(heap);
+    let a = collections_maps::readings::value_type(h, slots, scalars, list, directory, cells, w);
+    write_answer(answer, answers::reading(a))
 }
 
 // How often a map was compacted, in 32 bits.
@@ -2003,11 +2068,11 @@ pub extern "C" fn mch_map_epoch(
     answer: &mut [u64; 6],
 ) -> u64
     requires { ⌜ Good (holds (now heap) (now slots) (now scalars) (now list) (now directory) (now cells)) ⌝ }
-    ensures { λ r. ⌜ Reads (Calls.map-epoch w) (holds (now (heap .entry)) (now (slots .entry)) (now (scalars .entry)) (now (list .entry)) (now (directory .entry)) (now (cells .entry))) r (now (answer .exit)) ⌝ }
+    ensures { λ r. ⌜ DeliversSame (Calls.map-epoch w) (holds (now (heap .entry)) (now (slots .entry)) (now (scalars .entry)) (now (list .entry)) (now (directory .entry)) (now (cells .entry))) r (now (answer .exit)) ⌝ }
 {
-    let h = record::load(heap);
-    let a = collections::map_epoch(h, slots, scalars, list, directory, cells, w);
-    write_answer(answer, commands::reading(a))
+    let h = heap_record::load(heap);
+    let a = collections_maps::readings::map_epoch(h, slots, scalars, list, directory, cells, w);
+    write_answer(answer, answers::reading(a))
 }
 
 // The next entry's sequence number.
@@ -2023,11 +2088,11 @@ pub extern "C" fn mch_next_sequence(
     answer: &mut [u64; 6],
 ) -> u64
     requires { ⌜ Good (holds (now heap) (now slots) (now scalars) (now list) (now directory) (now cells)) ⌝ }
-    ensures { λ r. ⌜ Reads (Calls.next-sequence w) (holds (now (heap .entry)) (now (slots .entry)) (now (scalars .entry)) (now (list .entry)) (now (directory .entry)) (now (cells .entry))) r (now (answer .exit)) ⌝ }
+    ensures { λ r. ⌜ DeliversSame (Calls.next-sequence w) (holds (now (heap .entry)) (now (slots .entry)) (now (scalars .entry)) (now (list .entry)) (now (directory .entry)) (now (cells .entry))) r (now (answer .exit)) ⌝ }
 {
-    let h = record::load(heap);
-    let a = collections::next_sequence(h, slots, scalars, list, directory, cells, w);
-    write_answer(answer, commands::reading(a))
+    let h = heap_record::load(heap);
+    let a = collections_maps::readings::next_sequence(h, slots, scalars, list, directory, cells, w);
+    write_answer(answer, answers::reading(a))
 }
 
 // The capacity of a map's entry list.
@@ -2043,11 +2108,19 @@ pub extern "C" fn mch_entry_capacity(
     answer: &mut [u64; 6],
 ) -> u64
     requires { ⌜ Good (holds (now heap) (now slots) (now scalars) (now list) (now directory) (now cells)) ⌝ }
-    ensures { λ r. ⌜ Reads (Calls.entry-capacity w) (holds (now (heap .entry)) (now (slots .entry)) (now (scalars .entry)) (now (list .entry)) (now (directory .entry)) (now (cells .entry))) r (now (answer .exit)) ⌝ }
+    ensures { λ r. ⌜ DeliversSame (Calls.entry-capacity w) (holds (now (heap .entry)) (now (slots .entry)) (now (scalars .entry)) (now (list .entry)) (now (directory .entry)) (now (cells .entry))) r (now (answer .exit)) ⌝ }
 {
-    let h = record::load(heap);
-    let a = collections::entry_capacity(h, slots, scalars, list, directory, cells, w);
-    write_answer(answer, commands::reading(a))
+    let h = heap_record::load(heap);
+    let a = collections_maps::readings::entry_capacity(
+        h,
+        slots,
+        scalars,
+        list,
+        directory,
+        cells,
+        w,
+    );
+    write_answer(answer, answers::reading(a))
 }
 
 // The length of a map's index.
@@ -2063,11 +2136,11 @@ pub extern "C" fn mch_index_length(
     answer: &mut [u64; 6],
 ) -> u64
     requires { ⌜ Good (holds (now heap) (now slots) (now scalars) (now list) (now directory) (now cells)) ⌝ }
-    ensures { λ r. ⌜ Reads (Calls.index-length w) (holds (now (heap .entry)) (now (slots .entry)) (now (scalars .entry)) (now (list .entry)) (now (directory .entry)) (now (cells .entry))) r (now (answer .exit)) ⌝ }
+    ensures { λ r. ⌜ DeliversSame (Calls.index-length w) (holds (now (heap .entry)) (now (slots .entry)) (now (scalars .entry)) (now (list .entry)) (now (directory .entry)) (now (cells .entry))) r (now (answer .exit)) ⌝ }
 {
-    let h = record::load(heap);
-    let a = collections::index_length(h, slots, scalars, list, directory, cells, w);
-    write_answer(answer, commands::reading(a))
+    let h = heap_record::load(heap);
+    let a = collections_maps::readings::index_length(h, slots, scalars, list, directory, cells, w);
+    write_answer(answer, answers::reading(a))
 }
 
 // The bytes that an insertion of this key would be charged.
@@ -2084,11 +2157,20 @@ pub extern "C" fn mch_growth_bytes(
     answer: &mut [u64; 6],
 ) -> u64
     requires { ⌜ Good (holds (now heap) (now slots) (now scalars) (now list) (now directory) (now cells)) ⌝ }
-    ensures { λ r. ⌜ Reads (Calls.growth-bytes w key) (holds (now (heap .entry)) (now (slots .entry)) (now (scalars .entry)) (now (list .entry)) (now (directory .entry)) (now (cells .entry))) r (now (answer .exit)) ⌝ }
+    ensures { λ r. ⌜ DeliversSame (Calls.growth-bytes w key) (holds (now (heap .entry)) (now (slots .entry)) (now (scalars .entry)) (now (list .entry)) (now (directory .entry)) (now (cells .entry))) r (now (answer .exit)) ⌝ }
 {
-    let h = record::load(heap);
-    let a = collections::growth_bytes(h, slots, scalars, list, directory, cells, w, key);
-    write_answer(answer, commands::reading(a))
+    let h = heap_record::load(heap);
+    let a = collections_maps::readings::growth_bytes(
+        h,
+        slots,
+        scalars,
+        list,
+        directory,
+        cells,
+        w,
+        key,
+    );
+    write_answer(answer, answers::reading(a))
 }
 
 // The next item of an iterator, or its end.
@@ -2104,11 +2186,11 @@ pub extern "C" fn mch_iter_next(
     answer: &mut [u64; 6],
 ) -> u64
     requires { ⌜ Good (holds (now heap) (now slots) (now scalars) (now list) (now directory) (now cells)) ⌝ }
-    ensures { λ r. ⌜ Performs (Calls.iter-next w) (holds (now (heap .entry)) (now (slots .entry)) (now (scalars .entry)) (now (list .entry)) (now (directory .entry)) (now (cells .entry))) r (now (answer .exit)) (holds (now (heap .entry)) (now (slots .entry)) (now (scalars .exit)) (now (list .entry)) (now (directory .entry)) (now (cells .entry))) ⌝ }
+    ensures { λ r. ⌜ Delivers (Calls.iter-next w) (holds (now (heap .entry)) (now (slots .entry)) (now (scalars .entry)) (now (list .entry)) (now (directory .entry)) (now (cells .entry))) r (now (answer .exit)) (holds (now (heap .entry)) (now (slots .entry)) (now (scalars .exit)) (now (list .entry)) (now (directory .entry)) (now (cells .entry))) ⌝ }
 {
-    let h = record::load(heap);
-    let a = collections::iter_next(h, slots, scalars, list, directory, cells, w);
-    write_answer(answer, commands::perhaps(a))
+    let h = heap_record::load(heap);
+    let a = collections_iterators::iter_next(h, slots, scalars, list, directory, cells, w);
+    write_answer(answer, answers::perhaps(a))
 }
 
 // The key of the item visited last.
@@ -2124,11 +2206,11 @@ pub extern "C" fn mch_iter_key(
     answer: &mut [u64; 6],
 ) -> u64
     requires { ⌜ Good (holds (now heap) (now slots) (now scalars) (now list) (now directory) (now cells)) ⌝ }
-    ensures { λ r. ⌜ Reads (Calls.iter-key w) (holds (now (heap .entry)) (now (slots .entry)) (now (scalars .entry)) (now (list .entry)) (now (directory .entry)) (now (cells .entry))) r (now (answer .exit)) ⌝ }
+    ensures { λ r. ⌜ DeliversSame (Calls.iter-key w) (holds (now (heap .entry)) (now (slots .entry)) (now (scalars .entry)) (now (list .entry)) (now (directory .entry)) (now (cells .entry))) r (now (answer .exit)) ⌝ }
 {
-    let h = record::load(heap);
-    let a = collections::iter_key(h, slots, scalars, list, directory, cells, w);
-    write_answer(answer, commands::perhaps(a))
+    let h = heap_record::load(heap);
+    let a = collections_iterators::iter_key(h, slots, scalars, list, directory, cells, w);
+    write_answer(answer, answers::perhaps(a))
 }
 
 // The word of the array or map that an iterator goes over.
@@ -2144,11 +2226,11 @@ pub extern "C" fn mch_iter_source(
     answer: &mut [u64; 6],
 ) -> u64
     requires { ⌜ Good (holds (now heap) (now slots) (now scalars) (now list) (now directory) (now cells)) ⌝ }
-    ensures { λ r. ⌜ Reads (Calls.iter-source w) (holds (now (heap .entry)) (now (slots .entry)) (now (scalars .entry)) (now (list .entry)) (now (directory .entry)) (now (cells .entry))) r (now (answer .exit)) ⌝ }
+    ensures { λ r. ⌜ DeliversSame (Calls.iter-source w) (holds (now (heap .entry)) (now (slots .entry)) (now (scalars .entry)) (now (list .entry)) (now (directory .entry)) (now (cells .entry))) r (now (answer .exit)) ⌝ }
 {
-    let h = record::load(heap);
-    let a = collections::iter_source(h, slots, scalars, list, directory, cells, w);
-    write_answer(answer, commands::reading(a))
+    let h = heap_record::load(heap);
+    let a = collections_iterators::iter_source(h, slots, scalars, list, directory, cells, w);
+    write_answer(answer, answers::reading(a))
 }
 
 // The type of an iterator's keys.
@@ -2164,11 +2246,11 @@ pub extern "C" fn mch_iter_key_type(
     answer: &mut [u64; 6],
 ) -> u64
     requires { ⌜ Good (holds (now heap) (now slots) (now scalars) (now list) (now directory) (now cells)) ⌝ }
-    ensures { λ r. ⌜ Reads (Calls.iter-key-type w) (holds (now (heap .entry)) (now (slots .entry)) (now (scalars .entry)) (now (list .entry)) (now (directory .entry)) (now (cells .entry))) r (now (answer .exit)) ⌝ }
+    ensures { λ r. ⌜ DeliversSame (Calls.iter-key-type w) (holds (now (heap .entry)) (now (slots .entry)) (now (scalars .entry)) (now (list .entry)) (now (directory .entry)) (now (cells .entry))) r (now (answer .exit)) ⌝ }
 {
-    let h = record::load(heap);
-    let a = collections::iter_key_type(h, slots, scalars, list, directory, cells, w);
-    write_answer(answer, commands::reading(a))
+    let h = heap_record::load(heap);
+    let a = collections_iterators::iter_key_type(h, slots, scalars, list, directory, cells, w);
+    write_answer(answer, answers::reading(a))
 }
 
 // Whether an iterator has ended.
@@ -2184,11 +2266,11 @@ pub extern "C" fn mch_iter_ended(
     answer: &mut [u64; 6],
 ) -> u64
     requires { ⌜ Good (holds (now heap) (now slots) (now scalars) (now list) (now directory) (now cells)) ⌝ }
-    ensures { λ r. ⌜ Reads (Calls.iter-ended w) (holds (now (heap .entry)) (now (slots .entry)) (now (scalars .entry)) (now (list .entry)) (now (directory .entry)) (now (cells .entry))) r (now (answer .exit)) ⌝ }
+    ensures { λ r. ⌜ DeliversSame (Calls.iter-ended w) (holds (now (heap .entry)) (now (slots .entry)) (now (scalars .entry)) (now (list .entry)) (now (directory .entry)) (now (cells .entry))) r (now (answer .exit)) ⌝ }
 {
-    let h = record::load(heap);
-    let a = collections::iter_ended(h, slots, scalars, list, directory, cells, w);
-    write_answer(answer, commands::test(a))
+    let h = heap_record::load(heap);
+    let a = collections_iterators::iter_ended(h, slots, scalars, list, directory, cells, w);
+    write_answer(answer, answers::test(a))
 }
 
 // An iterator's cursor.
@@ -2204,9 +2286,9 @@ pub extern "C" fn mch_iter_cursor(
     answer: &mut [u64; 6],
 ) -> u64
     requires { ⌜ Good (holds (now heap) (now slots) (now scalars) (now list) (now directory) (now cells)) ⌝ }
-    ensures { λ r. ⌜ Reads (Calls.iter-cursor w) (holds (now (heap .entry)) (now (slots .entry)) (now (scalars .entry)) (now (list .entry)) (now (directory .entry)) (now (cells .entry))) r (now (answer .exit)) ⌝ }
+    ensures { λ r. ⌜ DeliversSame (Calls.iter-cursor w) (holds (now (heap .entry)) (now (slots .entry)) (now (scalars .entry)) (now (list .entry)) (now (directory .entry)) (now (cells .entry))) r (now (answer .exit)) ⌝ }
 {
-    let h = record::load(heap);
-    let a = collections::iter_cursor(h, slots, scalars, list, directory, cells, w);
-    write_answer(answer, commands::cursor(a))
+    let h = heap_record::load(heap);
+    let a = collections_iterators::iter_cursor(h, slots, scalars, list, directory, cells, w);
+    write_answer(answer, answers::cursor(a))
 }

@@ -11,12 +11,13 @@ use native.Mathlib.Decide.{ℕ-discrete, decLt}
 use lib.Dec.{eqb, leb}
 use lib.ListN.{length, getD, take, drop}
 use borrow.Author.Tests.{eq-eqb, ne-eqb, lt-leb}
-use Rattle.slots.specs.Header.{headerAt, scalarsAt}
-use Rattle.slots.specs.FreeList.{freeList}
-use Rattle.slots.specs.declared.Header.{Header}
-use Rattle.slots.specs.declared.Scalars.{Scalars}
-use Rattle.cells.specs.Regions as Regions
-use Rattle.cells.specs.Regions.{Raw, Laid, rawAt, regionOf, sumTo}
+use Rattle.heap_slots.specs.Limits.{BOX-HALF, GENERATIONS, LAST-GENERATION, SLOT-WORDS, SLOTS-MAX}
+use Rattle.heap_slots.specs.Header.{headerAt, scalarsAt}
+use Rattle.heap_slots.specs.FreeList.{freeList}
+use Rattle.heap_slots.specs.declared.Header.{Header}
+use Rattle.heap_slots.specs.declared.Scalars.{Scalars}
+use Rattle.heap_cells.specs.Regions as Regions
+use Rattle.heap_cells.specs.Regions.{RawSlot, Laid, rawAt, regionOf, sumTo}
 use Rattle.account.specs.Account.{afterSweep, saturated}
 use Rattle.layout.specs.Layout.{Layout}
 use Rattle.model.specs.Reference.{word}
@@ -29,14 +30,15 @@ use Rattle.model.specs.Kept.{finalizable, kept, settled, swept}
 use Rattle.heap.specs.Kinds.{contentOf, roomOf, objectOf}
 use Rattle.heap.specs.State.{State, rawOf, moreOf, slotOf, slotFrom, modelOf, unused}
 use Rattle.heap.specs.Good.{Good, SlotGood, coroutineOf, filled}
+use Rattle.heap.proofs.GoodLaws.{good-as}
 use Rattle.heap.proofs.KindLaws.{object-none, object-some}
 use Rattle.heap.proofs.SlotLaws.{slot-used, slot-unused, raw-length}
-use Rattle.marking.specs.Reach.{Marked}
-use Rattle.marking.specs.Children.{wordAt}
-use Rattle.marking.proofs.Bridge.{liveAt, named-word}
-use Rattle.finalizing.specs.Dropped.{droppedWords, marksReached, marksKept, finalizedIn, isDropped}
-use Rattle.finalizing.proofs.Found.{dropped-finalizable, kept-marked, dropped-kind}
-use Rattle.finalizing.proofs.Finalized.{flagged, names-mem, finalized-at, finalized-length, dropped-owned, dropped-mem}
+use Rattle.collector_marking.specs.Reach.{Marked}
+use Rattle.collector_marking.specs.Children.{wordAt}
+use Rattle.collector_marking.proofs.Bridge.{liveAt, named-word}
+use Rattle.collector_finalizing.specs.Dropped.{droppedWords, marksReached, marksKept, finalizedIn, isDropped}
+use Rattle.collector_finalizing.proofs.Found.{dropped-finalizable, kept-marked, dropped-kind}
+use Rattle.collector_finalizing.proofs.Finalized.{flagged, names-mem, finalized-at, finalized-length, dropped-owned, dropped-mem}
 use Rattle.collector.specs.declared.Tally.{Tally}
 use Rattle.collector.specs.Sweep.{weightAt, freedHeader, nextGeneration, freedAt, returnedAt, sweptHeader, Swept, stateAfter}
 use Rattle.collector.proofs.Contents.{weight-of-object, flag-good, flag-finalizes}
@@ -93,35 +95,19 @@ module _ (f : ℕ → Content → Option Content) (i : ℕ) (s : Slot) where
     drops-freed h = rw (e, q, h)
 
 -- a slot freed, as the header has it
-freed-generation : (h : Header) → freedHeader h .half % 32768 ≡ nextGeneration (h .half % 32768)
-freed-generation h = elim (ℕ-discrete (h .half % 32768) 32767) [ yes e ↦ rw (eq-eqb (h .half % 32768) 32767 e) (omega arith) | no e ↦ rw (ne-eqb (h .half % 32768) 32767 e) (omega arith) ]
+freed-generation : (h : Header) → freedHeader h .half % GENERATIONS ≡ nextGeneration (h .half % GENERATIONS)
+freed-generation h = elim (ℕ-discrete (h .half % GENERATIONS) LAST-GENERATION) [ yes e ↦ rw (eq-eqb (h .half % GENERATIONS) LAST-GENERATION e) (omega arith) | no e ↦ rw (ne-eqb (h .half % GENERATIONS) LAST-GENERATION e) (omega arith) ]
 
-freed-slot : (h : Header) (c : List ℕ) (y : Scalars) → slotFrom (Regions.rawOf (freedHeader h) c) y ≡ freedSlot (h .half % 32768)
+freed-slot : (h : Header) (c : List ℕ) (y : Scalars) → slotFrom (Regions.rawOf (freedHeader h) c) y ≡ freedSlot (h .half % GENERATIONS)
 unfolding slotFrom freedSlot
 freed-slot h c y =
     let a = freed-generation h in
-    let b : leb 98304 (freedHeader h .half) ≡ false = lt-leb 98304 (freedHeader h .half) (freed-high h) in
+    let b : leb BOX-HALF (freedHeader h .half) ≡ false = lt-leb BOX-HALF (freedHeader h .half) (freed-high h) in
     let o = object-none (Regions.rawOf (freedHeader h) c) y refl in
     λ j. record { gen = a j; boxed = b j; object = o j }
 
 freed-good : (h : Header) (c : List ℕ) (y : Scalars) → SlotGood (Regions.rawOf (freedHeader h) c) y
-freed-good h c y = record {
-  half-low = freed-low h;
-  half-high = omega (arith, freed-high h);
-  kind = omega arith;
-  empty = λ e. (freed-high h, refl);
-  string = λ e. absurd (omega (arith, e));
-  integer = λ e. absurd (omega (arith, e));
-  cell = λ e. absurd (omega (arith, e));
-  error = λ e. absurd (omega (arith, e));
-  box = λ e. absurd (omega (arith, e));
-  array = λ e. absurd (omega (arith, e));
-  map = λ e. absurd (omega (arith, e));
-  struct = λ e. absurd (omega (arith, e));
-  function = λ e. absurd (omega (arith, e));
-  iterator = λ e. absurd (omega (arith, e));
-  coroutine = λ e. absurd (omega (arith, e));
-}
+freed-good h c y = good-as 0 refl (omega arith) (freed-low h) (omega (arith, freed-high h)) (freed-high h, refl)
 
 -- regions: each slot keeps its own or has none
 laid-swept : {n top entries : ℕ} {s dir c : List ℕ} (m s′ : List ℕ) → Laid n top entries s dir c → length s′ ≡ length s → ((j : ℕ) → j < n → headerAt s′ j ≡ sweptHeader m s j) → Laid n top entries s′ dir c
@@ -169,10 +155,10 @@ module _ (l : Layout) (t : State) (g : Good t) (roots : List ℕ) where
   abbrev rule : ℕ → Content → Option Content
   rule = swept (kept view roots) (finalizable view roots)
 
-  few : n ≤ 65536
+  few : n ≤ SLOTS-MAX
   few = omega (arith, g .fresh, g .slots-max)
 
-  fits : (i : ℕ) → i < n → i * 8 + 8 ≤ length (t .scalars)
+  fits : (i : ℕ) → i < n → i * SLOT-WORDS + SLOT-WORDS ≤ length (t .scalars)
   fits i low = omega (arith, g .fresh, g .scalars-fit)
 
   -- kept exactly if marked
@@ -198,11 +184,11 @@ module _ (l : Layout) (t : State) (g : Good t) (roots : List ℕ) where
   rule-freed i low k e c = rw (kept-test i low k, e)
 
   -- the slot before
-  slot-gen : (i : ℕ) → i < n → (slotOf t i) .gen ≡ headerAt (t .slots) i .half % 32768
+  slot-gen : (i : ℕ) → i < n → (slotOf t i) .gen ≡ headerAt (t .slots) i .half % GENERATIONS
   unfolding slotFrom rawAt
   slot-gen i low = ap (λ (s : Slot). s .gen) (slot-used t i low)
 
-  slot-boxed : (i : ℕ) → i < n → (slotOf t i) .boxed ≡ leb 98304 (headerAt (t .slots) i .half)
+  slot-boxed : (i : ℕ) → i < n → (slotOf t i) .boxed ≡ leb BOX-HALF (headerAt (t .slots) i .half)
   unfolding slotFrom rawAt
   slot-boxed i low = ap (λ (s : Slot). s .boxed) (slot-used t i low)
 
@@ -277,13 +263,13 @@ module _ (l : Layout) (t : State) (g : Good t) (roots : List ℕ) where
     vacant-after : (i : ℕ) → i < n → rawOf t i .kind ≡ 0 → slotFrom (rawOf after i) (moreOf after i) ≡ slotAfter rule i (slotOf t i)
     unfolding slotFrom rawAt
     vacant-after i low k =
-        ap (λ (r : Raw). slotFrom r (moreOf after i)) (raw-kept i low (freed-vacant marks (t .slots) i k))
+        ap (λ (r : RawSlot). slotFrom r (moreOf after i)) (raw-kept i low (freed-vacant marks (t .slots) i k))
         ∙ (λ j. record { gen = sym (slot-gen i low) j; boxed = sym (slot-boxed i low) j; object = object-none (rawOf t i) (moreOf after i) k j })
         ∙ sym (after-none rule i (slotOf t i) (slot-none i low k))
 
     freed-after : (i : ℕ) → i < n → rawOf t i .kind ≢ 0 → freedAt marks (t .slots) i ≡ true → slotFrom (rawOf after i) (moreOf after i) ≡ slotAfter rule i (slotOf t i)
     freed-after i low k e =
-        ap (λ (r : Raw). slotFrom r (moreOf after i)) (raw-freed i low e)
+        ap (λ (r : RawSlot). slotFrom r (moreOf after i)) (raw-freed i low e)
         ∙ freed-slot (headerAt (t .slots) i) (regionOf (freedHeader (headerAt (t .slots) i)) (t .cells)) (moreOf after i)
         ∙ ap freedSlot (sym (slot-gen i low))
         ∙ sym (after-freed rule i (slotOf t i) _ (slot-some i low k) (slot-word i low) (rule-freed i low k e _))
@@ -293,7 +279,7 @@ module _ (l : Layout) (t : State) (g : Good t) (roots : List ℕ) where
     kept-after i low k e =
         let o : objectOf (rawOf t i) (moreOf after i) ≡ some record { content = settled (finalizable view roots) (wordAt (t .slots) i) (contentOf (rawOf t i) (moreOf t i)); room = roomOf (rawOf t i) } =
         object-some (rawOf t i) (moreOf after i) k ∙ ap {B = Option Object} (λ (c : Content). some record { content = c; room = roomOf (rawOf t i) }) (content-after i low) in
-        ap (λ (r : Raw). slotFrom r (moreOf after i)) (raw-kept i low e)
+        ap (λ (r : RawSlot). slotFrom r (moreOf after i)) (raw-kept i low e)
         ∙ (λ j. record { gen = sym (slot-gen i low) j; boxed = sym (slot-boxed i low) j; object = o j })
         ∙ sym (after-kept rule i (slotOf t i) _ (slot-some i low k) (slot-word i low) _ (rule-kept i low k e _))
 

@@ -7,19 +7,20 @@ use native.Mathlib.Omega.{arith}
 use borrow.Author.Tests.{lt-ltb, le-ltb}
 use lib.ListN.{length, getD, take}
 use lib.Seq.{length-take-le}
-use Rattle.slots.specs.Header.{scalarsAt}
-use Rattle.slots.specs.declared.Scalars.{Scalars}
+use Rattle.heap_slots.specs.Limits.{SLOT-WORDS, SLOTS-MAX, SPAN}
+use Rattle.heap_slots.specs.Header.{scalarsAt}
+use Rattle.heap_slots.specs.declared.Scalars.{Scalars}
 use Rattle.layout.specs.Layout.{Layout}
 use Rattle.model.specs.declared.Weights.{Weights}
-use Rattle.marking.specs.Children.{wordAt}
-use Rattle.marking.specs.Marks.{Unmarked}
-use Rattle.finalizing.specs.declared.Kept.{Kept}
-use Rattle.finalizing.specs.declared.Kept.the-variants as K
-use Rattle.finalizing.specs.Dropped.{droppedWords, finalizedIn, Blanks, TooFew, AllKept, Keeps}
-use Rattle.finalizing.proofs.OrderLaws.{occ-at}
-use Rattle.finalizing.proofs.Listing.{filled-part, filled-length}
-use Rattle.finalizing.proofs.Keeping.{at-rest}
-use Rattle.finalizing.proofs.Finalized.{finalized-at, finalized-length, names, dropped-member}
+use Rattle.collector_marking.specs.Children.{wordAt}
+use Rattle.collector_marking.specs.Marks.{Unmarked}
+use Rattle.collector_finalizing.specs.declared.Kept.{Kept}
+use Rattle.collector_finalizing.specs.declared.Kept.the-variants as K
+use Rattle.collector_finalizing.specs.Dropped.{droppedWords, finalizedIn, Blanks, TooFew, AllKept, Keeps}
+use Rattle.collector_finalizing.proofs.OrderLaws.{occ-at}
+use Rattle.collector_finalizing.proofs.Listing.{filled-part, filled-length}
+use Rattle.collector_finalizing.proofs.Keeping.{at-rest}
+use Rattle.collector_finalizing.proofs.Finalized.{finalized-at, finalized-length, names, dropped-member}
 use Rattle.collector.specs.declared.Tally.{Tally}
 use Rattle.collector.specs.Sweep.{Sweepable, Swept}
 use Rattle.collector.specs.Ending.{Buffers, buffers, Collects, Ends, Refuses}
@@ -46,15 +47,15 @@ module _ {s : List ℕ} {n : ℕ} {f kept o p m′ o′ p′ : List ℕ} {a b : 
   listed-length = sym (length-take-le a p′ listed-fits)
 
 -- each listed word names one of the slots
-pub listed-slots : (l : Layout) (s x c : List ℕ) (n : ℕ) (roots : List ℕ) {kept o p m′ o′ p′ : List ℕ} {a b : ℕ} → AllKept s n (droppedWords l s x c n roots) kept o p m′ o′ p′ a b → n ≤ 65536 → n * 8 ≤ length x →
-    (k : ℕ) → k < length (take a p′) → getD (take a p′) k 0 % 4294967296 * 8 + 8 ≤ length x
+pub listed-slots : (l : Layout) (s x c : List ℕ) (n : ℕ) (roots : List ℕ) {kept o p m′ o′ p′ : List ℕ} {a b : ℕ} → AllKept s n (droppedWords l s x c n roots) kept o p m′ o′ p′ a b → n ≤ SLOTS-MAX → n * SLOT-WORDS ≤ length x →
+    (k : ℕ) → k < length (take a p′) → getD (take a p′) k 0 % SPAN * SLOT-WORDS + SLOT-WORDS ≤ length x
 listed-slots l s x c n roots q few fits k lt = rw (listed-part q) (go (rw (listed-part q) at lt))
   where
-    go : k < length (droppedWords l s x c n roots) → getD (droppedWords l s x c n roots) k 0 % 4294967296 * 8 + 8 ≤ length x
+    go : k < length (droppedWords l s x c n roots) → getD (droppedWords l s x c n roots) k 0 % SPAN * SLOT-WORDS + SLOT-WORDS ≤ length x
     go h =
         let m = dropped-member l s x c n roots (getD (droppedWords l s x c n roots) k 0) (occ-at (droppedWords l s x c n roots) k h) in
         let low = m .low in
-        let e : getD (droppedWords l s x c n roots) k 0 % 4294967296 ≡ m .slot = ap (λ (j : ℕ). j % 4294967296) (m .is) ∙ (let z : wordAt s (m .slot) % 4294967296 ≡ m .slot = omega arith in z) in
+        let e : getD (droppedWords l s x c n roots) k 0 % SPAN ≡ m .slot = ap (λ (j : ℕ). j % SPAN) (m .is) ∙ (let z : wordAt s (m .slot) % SPAN ≡ m .slot = omega arith in z) in
         omega arith
 
 -- finalizing changes nothing that the sweep asks of

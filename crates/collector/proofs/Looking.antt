@@ -9,8 +9,9 @@ use native.Mathlib.Numerals.{add-one}
 use lib.Dec.{eqb}
 use lib.ListN.{length, getD, set}
 use borrow.Author.Tests.{eq-eqb, ne-eqb}
-use Rattle.slots.specs.Header.{headerAt, scalarsAt, setHeader}
-use Rattle.slots.specs.declared.Header.{Header}
+use Rattle.heap_slots.specs.Limits.{GENERATIONS, LAST-GENERATION}
+use Rattle.heap_slots.specs.Header.{headerAt, scalarsAt, setHeader}
+use Rattle.heap_slots.specs.declared.Header.{Header}
 use Rattle.model.specs.declared.Weights.{Weights}
 use Rattle.heap.specs.Good.{coroutineOf}
 use Rattle.collector.specs.declared.Tally.{Tally}
@@ -34,13 +35,13 @@ module _ (s x l m : List ℕ) (i : ℕ) (w : Weights) (t : Tally) {h : Header} (
         e₃ p r o = λ j. keptTally t (p j) (r j) (o j)
 
     module _ (z : getD m i 0 ≡ 0) where
-      pub look-retires : h .half % 32768 ≡ 32767 → {r : Header} {s′ : List ℕ} → r ≡ emptyHeader h (h .half % 32768) → s′ ≡ setHeader s i r → Looked s x l m i w t s′ l (retiredTally t)
+      pub look-retires : h .half % GENERATIONS ≡ LAST-GENERATION → {r : Header} {s′ : List ℕ} → r ≡ emptyHeader h (h .half % GENERATIONS) → s′ ≡ setHeader s i r → Looked s x l m i w t s′ l (retiredTally t)
       look-retires g {r} e p =
-          let f : emptyHeader h (h .half % 32768) ≡ freedHeader h = ap (emptyHeader h) (sym (ap (λ b. cond b (h .half % 32768) (suc (h .half % 32768))) (eq-eqb (h .half % 32768) 32767 g))) in
-          retires held z (ap (λ (y : Header). y .half % 32768) (sym q) ∙ g) (p ∙ ap (setHeader s i) (e ∙ f ∙ ap freedHeader q)) refl refl
+          let f : emptyHeader h (h .half % GENERATIONS) ≡ freedHeader h = ap (emptyHeader h) (sym (ap (λ b. cond b (h .half % GENERATIONS) (suc (h .half % GENERATIONS))) (eq-eqb (h .half % GENERATIONS) LAST-GENERATION g))) in
+          retires held z (ap (λ (y : Header). y .half % GENERATIONS) (sym q) ∙ g) (p ∙ ap (setHeader s i) (e ∙ f ∙ ap freedHeader q)) refl refl
 
-      pub look-returns : (h .half % 32768 ≡ 32767 → ⊥) → {r : Header} {s′ : List ℕ} → r ≡ emptyHeader h (h .half % 32768 + 1) → s′ ≡ setHeader s i r → Looked s x l m i w t s′ (set l (t .free) i) (returnedTally t)
+      pub look-returns : (h .half % GENERATIONS ≡ LAST-GENERATION → ⊥) → {r : Header} {s′ : List ℕ} → r ≡ emptyHeader h (h .half % GENERATIONS + 1) → s′ ≡ setHeader s i r → Looked s x l m i w t s′ (set l (t .free) i) (returnedTally t)
       look-returns g {r} e p =
-          let f : emptyHeader h (h .half % 32768 + 1) ≡ freedHeader h =
-          ap (emptyHeader h) (add-one (h .half % 32768) ∙ sym (ap (λ b. cond b (h .half % 32768) (suc (h .half % 32768))) (ne-eqb (h .half % 32768) 32767 g))) in
-          returns held z (λ y. g (ap (λ (y : Header). y .half % 32768) q ∙ y)) (p ∙ ap (setHeader s i) (e ∙ f ∙ ap freedHeader q)) refl refl
+          let f : emptyHeader h (h .half % GENERATIONS + 1) ≡ freedHeader h =
+          ap (emptyHeader h) (add-one (h .half % GENERATIONS) ∙ sym (ap (λ b. cond b (h .half % GENERATIONS) (suc (h .half % GENERATIONS))) (ne-eqb (h .half % GENERATIONS) LAST-GENERATION g))) in
+          returns held z (λ y. g (ap (λ (y : Header). y .half % GENERATIONS) q ∙ y)) (p ∙ ap (setHeader s i) (e ∙ f ∙ ap freedHeader q)) refl refl

@@ -9,9 +9,10 @@ use lib.Dec.{leb}
 use lib.ListN.{length, getD, take, drop, replicate, length-replicate, getD-replicate, take-append-drop}
 use lib.Seq.{ext-getD, getD-take, length-take-le}
 use borrow.Author.Tests.{le-leb, lt-leb}
-use Rattle.slots.specs.Header.{headerAt, scalarsAt}
-use Rattle.slots.specs.declared.Header.{Header}
-use Rattle.cells.specs.Regions.{rawAt}
+use Rattle.heap_slots.specs.Limits.{CELLS-MAX, SLOTS-MAX}
+use Rattle.heap_slots.specs.Header.{headerAt, scalarsAt}
+use Rattle.heap_slots.specs.declared.Header.{Header}
+use Rattle.heap_cells.specs.Regions.{rawAt}
 use Rattle.account.specs.Account.{afterSweep, saturated}
 use Rattle.account.specs.declared.Account.{Account}
 use Rattle.layout.specs.Layout.{Layout}
@@ -29,13 +30,15 @@ use Rattle.history.proofs.Judging.{no-cells-added, says-none}
 use Rattle.heap.specs.Answers.{numberOf}
 use Rattle.heap.specs.declared.Refusal.the-variants as No
 use Rattle.heap.specs.declared.Heap.{Heap}
+use Rattle.heap.specs.Record.{withSwept}
 use Rattle.heap.specs.State.{State, modelOf, state}
 use Rattle.heap.specs.Good.{Good, Rested, SlotGood, filled}
 use Rattle.heap.specs.Promise.{Does}
+use Rattle.heap.proofs.GoodLaws.{holds-as}
 use Rattle.heap.proofs.DoesLaws.{does-own}
-use Rattle.marking.specs.Marks.{Sound}
-use Rattle.finalizing.specs.Dropped.{droppedWords, marksKept, finalizedIn, Blanks}
-use Rattle.finalizing.proofs.Found.{dropped-finalizable}
+use Rattle.collector_marking.specs.Marks.{Sound}
+use Rattle.collector_finalizing.specs.Dropped.{droppedWords, marksKept, finalizedIn, Blanks}
+use Rattle.collector_finalizing.proofs.Found.{dropped-finalizable}
 use Rattle.collector.specs.declared.Tally.{Tally}
 use Rattle.collector.specs.declared.Collection.the-variants as C
 use Rattle.collector.specs.Answer.{collectionIs}
@@ -86,7 +89,7 @@ module _ (l : Layout) (t : State) (g : Good t) (roots places : List ℕ) where
 -- ---- what a collection asks, of a good heap
 
 module _ {t : State} (g : Good t) where
-  few : t .heap .fresh ≤ 65536
+  few : t .heap .fresh ≤ SLOTS-MAX
   few = omega (arith, g .fresh, g .slots-max)
 
   pub good-sound : Sound (t .slots) (t .scalars) (t .cells) (t .heap .fresh)
@@ -103,16 +106,16 @@ module _ {t : State} (g : Good t) where
   unfolding rawAt
   weighable j low =
       let q : SlotGood (rawAt (t .slots) (t .cells) j) (scalarsAt (t .scalars) j) = g .each j low in
-      let z : headerAt (t .slots) j .size ≤ 1048576 = omega (arith, g .laid .inside j low, g .laid .cells-max) in
+      let z : headerAt (t .slots) j .size ≤ CELLS-MAX = omega (arith, g .laid .inside j low, g .laid .cells-max) in
       record {
         size = z;
-        string = λ e. omega (arith, q .string e, z);
-        capacity = λ e. omega (arith, q .map e .1, z);
-        index = λ e. omega (arith, q .map e .1, z);
-        fields = λ e. omega (arith, q .struct e, z);
-        captures = λ e. omega (arith, q .function e, z);
-        registers = λ e. omega (arith, q .coroutine e, z);
-        frames = λ e. omega (arith, q .coroutine e, z);
+        string = λ e. omega (arith, holds-as 1 e q, z);
+        capacity = λ e. omega (arith, holds-as 7 e q .1, z);
+        index = λ e. omega (arith, holds-as 7 e q .1, z);
+        fields = λ e. omega (arith, holds-as 8 e q, z);
+        captures = λ e. omega (arith, holds-as 9 e q, z);
+        registers = λ e. omega (arith, holds-as 11 e q, z);
+        frames = λ e. omega (arith, holds-as 11 e q, z);
       }
 
   pub good-sweepable : (m : List ℕ) → length m ≡ t .heap .fresh → Sweepable (t .heap .fresh) (t .heap .weights) (t .slots) (t .scalars) (t .list) m (t .heap .free)
@@ -125,7 +128,7 @@ module _ {t : State} (g : Good t) where
     marks-fit = e;
     weights = g .weights;
     weighable = weighable;
-    hollow = λ j low k. g .each j low .empty k .1;
+    hollow = λ j low k. holds-as 0 k (g .each j low) .1;
     listed = g .listed;
     room = omega (arith, g .room, g .present);
   }
@@ -148,8 +151,8 @@ module _ {t : State} (g : Good t) where
 
 -- the record, as the code makes it
 pub heap-is : (h : Heap) (y : Tally) {a : Account} {c f : ℕ} → a ≡ afterSweep (h .account) (y .weight) → c ≡ saturated (h .collections + 1) → f ≡ saturated (h .freed + y .freed) →
-    record { account = a; weights = h .weights; size = h .size; fresh = h .fresh; free = y .free; top = h .top; entries = h .entries; taken = y .taken; present = y .present; coroutines = y .coroutines; collections = c; freed = f } ≡ heapAfter h y
-heap-is h y p q r = λ j. record { account = p j; weights = h .weights; size = h .size; fresh = h .fresh; free = y .free; top = h .top; entries = h .entries; taken = y .taken; present = y .present; coroutines = y .coroutines; collections = q j; freed = r j }
+    withSwept h a (y .free) (y .taken) (y .present) (y .coroutines) c f ≡ heapAfter h y
+heap-is h y p q r = λ j. withSwept h (p j) (y .free) (y .taken) (y .present) (y .coroutines) (q j) (r j)
 
 -- ---- from the buffers to the promise
 

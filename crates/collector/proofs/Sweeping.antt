@@ -10,11 +10,12 @@ use native.Mathlib.Decide.{ℕ-discrete}
 use lib.Dec.{eqb}
 use lib.ListN.{length, getD, length-set}
 use borrow.Author.Tests.{eq-eqb, ne-eqb}
-use Rattle.slots.specs.Header.{headerAt, scalarsAt}
-use Rattle.slots.specs.declared.Header.{Header}
-use Rattle.slots.proofs.HeaderLaws.{headerAt-same, headerAt-other, length-setHeader}
-use Rattle.slots.proofs.FreeListLaws.{listed-kept, listed-push, free-push}
-use Rattle.cells.specs.Regions.{sumTo}
+use Rattle.heap_slots.specs.Limits.{BOX-HALF, GENERATIONS, HALF, LAST-GENERATION, SLOT-WORDS}
+use Rattle.heap_slots.specs.Header.{headerAt, scalarsAt}
+use Rattle.heap_slots.specs.declared.Header.{Header}
+use Rattle.heap_slots.proofs.HeaderLaws.{headerAt-same, headerAt-other, length-setHeader}
+use Rattle.heap_slots.proofs.FreeListLaws.{listed-kept, listed-push, free-push}
+use Rattle.heap_cells.specs.Regions.{sumTo}
 use Rattle.model.specs.Slots as Slots
 use Rattle.model.specs.Slots.{one, freeListAfter}
 use Rattle.model.specs.declared.Weights.{Weights}
@@ -55,24 +56,24 @@ module _ (m s : List ℕ) (j : ℕ) where
   unfolding returnedAt
   returned-not e = rw e
 
-  pub returned-retired : headerAt s j .half % 32768 ≡ 32767 → returnedAt m s j ≡ false
+  pub returned-retired : headerAt s j .half % GENERATIONS ≡ LAST-GENERATION → returnedAt m s j ≡ false
   unfolding returnedAt
-  returned-retired g = rw (eq-eqb (headerAt s j .half % 32768) 32767 g) (go (freedAt m s j))
+  returned-retired g = rw (eq-eqb (headerAt s j .half % GENERATIONS) LAST-GENERATION g) (go (freedAt m s j))
     where
       go : (b : Bool) → (b && false) ≡ false
       go true = refl
       go false = refl
 
-  pub returned-so : freedAt m s j ≡ true → headerAt s j .half % 32768 ≢ 32767 → returnedAt m s j ≡ true
+  pub returned-so : freedAt m s j ≡ true → headerAt s j .half % GENERATIONS ≢ LAST-GENERATION → returnedAt m s j ≡ true
   unfolding returnedAt
-  returned-so e g = rw (e, ne-eqb (headerAt s j .half % 32768) 32767 g)
+  returned-so e g = rw (e, ne-eqb (headerAt s j .half % GENERATIONS) LAST-GENERATION g)
 
 -- the next generation's first word
-pub freed-low : (h : Header) → 65536 ≤ freedHeader h .half
+pub freed-low : (h : Header) → HALF ≤ freedHeader h .half
 freed-low h = omega arith
 
-pub freed-high : (h : Header) → freedHeader h .half < 98304
-freed-high h = elim (ℕ-discrete (h .half % 32768) 32767) [ yes e ↦ rw (eq-eqb (h .half % 32768) 32767 e) (omega arith) | no e ↦ rw (ne-eqb (h .half % 32768) 32767 e) (omega arith) ]
+pub freed-high : (h : Header) → freedHeader h .half < BOX-HALF
+freed-high h = elim (ℕ-discrete (h .half % GENERATIONS) LAST-GENERATION) [ yes e ↦ rw (eq-eqb (h .half % GENERATIONS) LAST-GENERATION e) (omega arith) | no e ↦ rw (ne-eqb (h .half % GENERATIONS) LAST-GENERATION e) (omega arith) ]
 
 -- ---- sums
 
@@ -196,10 +197,10 @@ module _ {n : ℕ} {w : Weights} {s₀ x l₀ m : List ℕ} {free₀ : ℕ} (g :
         let k₀ : headerAt s₀ i .kind ≢ 0 = λ e. k (kind-same ∙ e) in
         let fr = freed-so m s₀ i k₀ z in
         let sw = swept-freed m s₀ i fr in
-        let fits : i * 8 + 8 ≤ length s = omega (arith, g .slots-fit, v .slots-length) in
+        let fits : i * SLOT-WORDS + SLOT-WORDS ≤ length s = omega (arith, g .slots-fit, v .slots-length) in
         let others : (j : ℕ) → (j ≡ i → ⊥) → headerAt s′ j ≡ headerAt s j = λ j ne. ap (λ (q : List ℕ). headerAt q j) es ∙ headerAt-other s i j (freedHeader (headerAt s i)) ne in
         let here : headerAt s′ i ≡ freedHeader (headerAt s i) = ap (λ (q : List ℕ). headerAt q i) es ∙ headerAt-same s i (freedHeader (headerAt s i)) fits in
-        let rt = returned-retired m s₀ i (ap (λ (h : Header). h .half % 32768) (sym same) ∙ r) in
+        let rt = returned-retired m s₀ i (ap (λ (h : Header). h .half % GENERATIONS) (sym same) ∙ r) in
         rw (el, et, add-one i)
         (record {
           slots-length = ap length es ∙ length-setHeader s i (freedHeader (headerAt s i)) ∙ v .slots-length;
@@ -224,10 +225,10 @@ module _ {n : ℕ} {w : Weights} {s₀ x l₀ m : List ℕ} {free₀ : ℕ} (g :
         let k₀ : headerAt s₀ i .kind ≢ 0 = λ e. k (kind-same ∙ e) in
         let fr = freed-so m s₀ i k₀ z in
         let sw = swept-freed m s₀ i fr in
-        let fits : i * 8 + 8 ≤ length s = omega (arith, g .slots-fit, v .slots-length) in
+        let fits : i * SLOT-WORDS + SLOT-WORDS ≤ length s = omega (arith, g .slots-fit, v .slots-length) in
         let others : (j : ℕ) → (j ≡ i → ⊥) → headerAt s′ j ≡ headerAt s j = λ j ne. ap (λ (q : List ℕ). headerAt q j) es ∙ headerAt-other s i j (freedHeader (headerAt s i)) ne in
         let here : headerAt s′ i ≡ freedHeader (headerAt s i) = ap (λ (q : List ℕ). headerAt q i) es ∙ headerAt-same s i (freedHeader (headerAt s i)) fits in
-        let rt = returned-so m s₀ i fr (λ e. r (ap (λ (h : Header). h .half % 32768) same ∙ e)) in
+        let rt = returned-so m s₀ i fr (λ e. r (ap (λ (h : Header). h .half % GENERATIONS) same ∙ e)) in
         let lf = swept-lookable .room k in
         rw (el, et, add-one i)
         (record {

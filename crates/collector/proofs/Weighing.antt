@@ -10,8 +10,9 @@ use native.Mathlib.Decide.{ℕ-discrete}
 use lib.Dec.{eqb}
 use lib.ListN.{length, take, drop}
 use borrow.Author.Tests.{eq-eqb, ne-eqb}
-use Rattle.slots.specs.declared.Header.{Header}
-use Rattle.slots.specs.declared.Scalars.{Scalars}
+use Rattle.heap_slots.specs.Limits.{CELLS-MAX}
+use Rattle.heap_slots.specs.declared.Header.{Header}
+use Rattle.heap_slots.specs.declared.Scalars.{Scalars}
 use Rattle.model.specs.declared.Weights.{Weights}
 use Rattle.heap.specs.Good.{WeightsGood}
 use Rattle.collector.specs.Sweep.{bytesAt, weightAt, Weighable}
@@ -62,10 +63,10 @@ module _ (w : Weights) (h : Header) (f : ℕ) where
 
 module _ {w : Weights} {h : Header} {f : ℕ} (g : WeightsGood w) (q : Weighable h f) where
   pub entries-weigh : h .kind ≡ 7 → w .entry * h .value ≤ 4294967296
-  entries-weigh e = let p : w .entry * h .value ≤ 4096 * 1048576 = product-le (w .entry) (h .value) 4096 1048576 (g .entry .1) (q .capacity e) in omega arith
+  entries-weigh e = let p : w .entry * h .value ≤ 4096 * CELLS-MAX = product-le (w .entry) (h .value) 4096 CELLS-MAX (g .entry .1) (q .capacity e) in omega arith
 
   pub frames-weigh : {y : ℕ} → y ≡ f → h .kind ≡ 11 → w .frame * y ≤ 4294967296
-  frames-weigh {y} z e = let p : w .frame * y ≤ 4096 * 1048576 = product-le (w .frame) y 4096 1048576 (g .frame .1) (rw z (q .frames e)) in omega arith
+  frames-weigh {y} z e = let p : w .frame * y ≤ 4096 * CELLS-MAX = product-le (w .frame) y 4096 CELLS-MAX (g .frame .1) (rw z (q .frames e)) in omega arith
 
   slot-le : w .slot ≤ 4096
   slot-le = g .slot .1

@@ -5,7 +5,7 @@ use mathlib.Core.List.{List}
 use lib.ListN.{length}
 use Rattle.model.specs.Replies.{written}
 use Rattle.model.specs.declared.Weights.{Weights}
-use Rattle.finalizing.specs.Dropped.{ListAnswer, finalizedIn, listAnswer}
+use Rattle.collector_finalizing.specs.Dropped.{ListAnswer, finalizedIn, listAnswer}
 use Rattle.collector.specs.declared.Tally.{Tally}
 use Rattle.collector.specs.declared.Ending.{Ending}
 use Rattle.collector.specs.declared.Ending.the-variants as E

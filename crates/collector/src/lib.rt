@@ -2,23 +2,28 @@
 ghost use mathlib.Core.Path.{_≡_};
 ghost use Prim.Native.Nat.{_+_, _*_, _≤_, _<_};
 ghost use lib.ListN.{length};
-ghost use Rattle.slots.specs.Header.{headerAt, scalarsAt};
+ghost use Rattle.heap_slots.specs.Header.{headerAt, scalarsAt};
+ghost use Rattle.heap_slots.specs.Limits.{GENERATIONS, HasSlot};
 ghost use Rattle.layout.specs.Sections.{Tabled, layoutOf};
 ghost use Rattle.model.specs.Calls as Calls;
 ghost use Rattle.heap.specs.State.{after, before, lent};
 ghost use Rattle.heap.specs.Good.{Good, Rested, WeightsGood, coroutinesIn};
 ghost use Rattle.heap.specs.Promise.{Does};
-ghost use Rattle.marking.specs.Marks.{Sound};
-ghost use Rattle.finalizing.specs.Dropped.{droppedWords, marksKept, Blanks};
+ghost use Rattle.collector_marking.specs.Marks.{Sound};
+ghost use Rattle.collector_finalizing.specs.Dropped.{droppedWords, marksKept, Blanks};
 ghost use Rattle.collector.specs.Answer.{collectionIs};
-ghost use Rattle.collector.specs.Sweep.{emptyHeader, weightAt, Weighable, Looked, Lookable, Swept, Sweepable};
+ghost use Rattle.collector.specs.Sweep.{emptyHeader, framesAt, weightAt, Weighable, Looked, Lookable, Swept, Sweepable};
 ghost use Rattle.collector.specs.Ending.{buffers, Ends};
 use account::Account;
-use finalizing::Kept;
+use collector_finalizing::Kept;
 use heap::Heap;
 use heap::Refusal;
+use heap_slots::Header;
+use heap_slots::kinds;
+use heap_slots::limits::GENERATIONS;
+use heap_slots::limits::HALF;
+use heap_slots::limits::LAST_GENERATION;
 use model::Weights;
-use slots::Header;
 
 // Objects freed and coroutines listed, or the refusal.
 pub enum Collection {
@@ -39,43 +44,33 @@ pub struct Tally {
 
 // What the object in slot i weighs.
 fn weigh(h: Header, scalars: &[u64], i: usize, w: Weights) -> u64
-    requires { ⌜ (i < 65536) × (i * 8 + 8 ≤ length (now scalars)) ⌝ }
-    requires { ⌜ Weighable h (scalarsAt (now scalars) i .f) ⌝ }
+    requires { ⌜ HasSlot (now scalars) i ⌝ }
+    requires { ⌜ Weighable h (framesAt (now scalars) i) ⌝ }
     requires { ⌜ WeightsGood w ⌝ }
-    ensures { λ r. ⌜ r ≡ weightAt w h (scalarsAt (now (scalars .entry)) i .f) ⌝ }
+    ensures { λ r. ⌜ r ≡ weightAt w h (framesAt (now (scalars .entry)) i) ⌝ }
 {
     let kind = h.kind;
     match kind {
-        1 => w.slot + h.len,
-        6 => w.slot + 8 * h.size,
-        7 => w.slot + (w.entry * h.value + 4 * h.mode),
-        8 => w.slot + 8 * h.len,
-        9 => w.slot + 8 * h.len,
-        10 => w.slot + w.iterator,
-        11 => {
-            let x = slots::read_scalars(scalars, i);
-            w.slot + (w.coroutine + 8 * h.len + w.frame * x.f)
+        kinds::STRING => w.slot + h.len,
+        kinds::ARRAY => w.slot + 8 * h.size,
+        kinds::MAP => w.slot + (w.entry * h.value + 4 * h.mode),
+        kinds::STRUCT => w.slot + 8 * h.len,
+        kinds::FUNCTION => w.slot + 8 * h.len,
+        kinds::ITERATOR => w.slot + w.iterator,
+        kinds::COROUTINE => {
+            let x = heap_slots::read_coroutine(scalars, i);
+            w.slot + (w.coroutine + 8 * h.len + w.frame * x.frames)
         },
         _ => w.slot,
     }
 }
 
-// The header of a slot without an object, whose next one has this generation. The other words stay,
-// so that they need not be stored.
+// The header of a slot without an object, whose next one has this generation.
 fn empty(h: Header, generation: u64) -> Header
-    requires { ⌜ generation ≤ 32768 ⌝ }
+    requires { ⌜ generation ≤ GENERATIONS ⌝ }
     ensures { λ r. ⌜ r ≡ emptyHeader h generation ⌝ }
 {
-    Header {
-        half: 65536 + generation,
-        kind: 0,
-        value: h.value,
-        mode: h.mode,
-        len: h.len,
-        size: 0,
-        start: h.start,
-        entry: h.entry,
-    }
+    heap_slots::emptied(h, HALF + generation)
 }
 
 // Slot i: a marked object is weighed, another is freed. Its generation grows by 1 and it is listed
@@ -92,8 +87,8 @@ fn sweep_slot(
     requires { ⌜ Lookable (now slots) (now scalars) (now list) (now marks) i w t ⌝ }
     ensures { λ r. ⌜ Looked (now (slots .entry)) (now (scalars .entry)) (now (list .entry)) (now (marks .entry)) i w t (now (slots .exit)) (now (list .exit)) r ⌝ }
 {
-    let h = slots::read_header(slots, i);
-    if h.kind == 0 {
+    let h = heap_slots::read_header(slots, i);
+    if h.kind == kinds::NONE {
         return t;
     }
     if marks[i] != 0 {
@@ -108,9 +103,9 @@ fn sweep_slot(
             coroutines: t.coroutines + coroutine,
         };
     }
-    let generation = h.half % 32768;
-    if generation == 32767 {
-        slots::write_header(slots, i, empty(h, generation));
+    let generation = h.half % GENERATIONS;
+    if generation == LAST_GENERATION {
+        heap_slots::write_header(slots, i, empty(h, generation));
         return Tally {
             free: t.free,
             freed: t.freed + 1,
@@ -120,7 +115,7 @@ fn sweep_slot(
             coroutines: t.coroutines,
         };
     }
-    slots::write_header(slots, i, empty(h, generation + 1));
+    heap_slots::write_header(slots, i, empty(h, generation + 1));
     let top = t.free as usize;
     list[top] = i as u64;
     Tally {
@@ -196,7 +191,7 @@ fn collect_slots(
         (buffers (now (slots .entry)) (now (scalars .entry)) (now (list .entry)) (now (marks .entry)) (now (order .entry)) (now (places .entry)))
         (buffers (now (slots .exit)) (now (scalars .exit)) (now (list .exit)) (now (marks .exit)) (now (order .exit)) (now (places .exit))) ⌝ }
 {
-    let kept = finalizing::mark_kept(
+    let kept = collector_finalizing::mark_kept(
         roots,
         slots,
         scalars,
@@ -212,9 +207,9 @@ fn collect_slots(
     let Kept::Done(listed, marked) = kept else {
         return Ending::Short;
     };
-    finalizing::finalize(&places[..listed], scalars);
+    collector_finalizing::finalize(&places[..listed], scalars);
     let t = sweep(fresh, free, slots, scalars, list, marks, w);
-    marking::unmark(marks, order, marked);
+    collector_marking::unmark(marks, order, marked);
     Ending::Swept(t, listed)
 }
 
@@ -278,20 +273,14 @@ pub fn collect(
     let next = account.after_sweep(t.weight);
     let collections = account::saturating_add(heap.collections, 1);
     let freed = account::saturating_add(heap.freed, t.freed);
-    let swept = Heap {
-        account: next,
-        weights,
-        size: heap.size,
-        fresh: heap.fresh,
-        free: t.free,
-        top: heap.top,
-        entries: heap.entries,
-        taken: t.taken,
-        present: t.present,
-        coroutines: t.coroutines,
-        collections,
-        freed,
-    };
+    let mut swept = heap;
+    swept.account = next;
+    swept.free = t.free;
+    swept.taken = t.taken;
+    swept.present = t.present;
+    swept.coroutines = t.coroutines;
+    swept.collections = collections;
+    swept.freed = freed;
     Collected {
         heap: swept,
         answer: Collection::Done(t.freed, listed as u64),

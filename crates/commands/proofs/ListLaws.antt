@@ -1,12 +1,10 @@
 -- From what the groups of commands promise to what every command promises, with the lists that it is lent. Assumes nothing.
-use Prim.Native.Nat.{ℕ}
+use Prim.Native.Nat.{ℕ, _≤_, _<_}
 use mathlib.Core.Path.{_≡_, refl, sym, ap, _∙_}
-use mathlib.Core.Logic.{_≢_}
+use mathlib.Core.Logic.{_≢_, ⊎-elim}
 use mathlib.Core.List.{List}
-use mathlib.Core.Option.{Option, none, some}
 use native.Mathlib.Omega.{arith}
 use Rattle.layout.specs.Layout.{Layout}
-use Rattle.history.proofs.Facts.{eqb-no}
 use Rattle.history.proofs.Lift.{Seen, seen}
 use Rattle.model.specs.Calls.{Call}
 use Rattle.model.specs.Model.{Model}
@@ -18,18 +16,22 @@ use Rattle.heap.specs.Answers.{readingIs}
 use Rattle.heap.specs.State.{State, modelOf}
 use Rattle.heap.specs.Good.{Ready}
 use Rattle.heap.specs.Promise.{Does}
-use Rattle.access.specs.Answers.{lentReading}
+use Rattle.heap_access.specs.Answers.{lentReading}
 use Rattle.collector.specs.declared.Collection.{Collection}
 use Rattle.collector.specs.declared.Collection.the-variants as Collect
 use Rattle.collector.specs.Answer.{collectionIs}
-use Rattle.commands.specs.declared.Shown.{Shown}
+use Rattle.answers.specs.declared.Shown.{Shown}
 use Rattle.commands.specs.declared.Performed.{Performed}
 use Rattle.commands.specs.declared.Performed.the-variants.{Known, Unknown}
-use Rattle.commands.specs.Commands.{orElse}
-use Rattle.commands.specs.Shows.{answerShown, replyShown, shownOf, withLent}
-use Rattle.commands.specs.Promise.{ChangedBy, ShowsCall, known-change, unknown-change}
-use Rattle.commands.specs.Lists.{CommandedBy, bytesAfter, known-command, leftIn, placesAfter, unknown-command}
-use Rattle.commands.proofs.PerformedLaws.{shown-refusal, unknown-call}
+use Rattle.answers.specs.Shows.{answerShown, replyShown, shownOf, withLent}
+use Rattle.answers.specs.Promise.{ShowsCall}
+use Rattle.answers.proofs.ShownLaws.{shown-refusal}
+use Rattle.commands.specs.declared.Operands.{Operands}
+use Rattle.commands.specs.Rows.{Act, Lists, Memory, buffer, choose, list-of-places, make, no-act, own, root-list}
+use Rattle.commands.specs.Table.{actIn, actOf, changeRows, groupOf, lentRows, memoryOf, newListRows, readRows}
+use Rattle.commands.specs.Promise.{ChangedBy, CommandedBy, both-change, both-command, bytesAfter, callsIn, known-change, known-command, leftIn, placesAfter, unknown-change, unknown-command}
+use Rattle.commands.proofs.ActLaws.{act-same, act-silent}
+use Rattle.commands.proofs.RowLaws.{change-act, group-last, lent-act, list-act, memory-own, read-act, same-or-not, session-calls}
 use Rattle.history.proofs.Sizes.{step-size}
 
 -- ---- one call
@@ -55,82 +57,89 @@ shown-read (Read.Refused q) bytes = refl
 
 -- ---- the lists
 
-pub bytes-kept : (c : ℕ) (m : Lent) (bytes : List ℕ) → c ≢ 0x26 → bytes ≡ bytesAfter c m bytes
-unfolding bytesAfter
-bytes-kept c m bytes n = rw (eqb-no c 0x26 n)
+-- the memory is a list of places
+pub data LendsPlaces : Memory → Type 0 where
+  places-given : {e : Memory} → e ≡ list-of-places → LendsPlaces e
+  roots-given : {e : Memory} → e ≡ root-list → LendsPlaces e
 
-pub places-kept : (c : ℕ) (m : Lent) (places : List ℕ) → c ≢ 0x0F → places ≡ placesAfter c m places
-unfolding placesAfter
-places-kept c m places n = rw (eqb-no c 0x0F n)
-
-pub bytes-left : (c : ℕ) {m : Lent} (bytes bytes′ : List ℕ) → c ≡ 0x26 → m ≡ list bytes′ → bytes′ ≡ bytesAfter c m bytes
-unfolding bytesAfter leftIn
-bytes-left c bytes bytes′ e f = rw (e, f)
-
-pub places-left : (c : ℕ) {m : Lent} (places places′ : List ℕ) → c ≡ 0x0F → m ≡ list places′ → places′ ≡ placesAfter c m places
+places-left : {e : Memory} (m : Lent) (places places′ : List ℕ) → LendsPlaces e → m ≡ list places′ → places′ ≡ placesAfter e m places
 unfolding placesAfter leftIn
-places-left c places places′ e f = rw (e, f)
+places-left m places places′ (places-given e) f = rw (e, f)
+places-left m places places′ (roots-given e) f = rw (e, f)
 
-some-none : {A : Type 0} (k : Call) {x : Option Call} → x ≡ some k → x ≡ none → A
-some-none k e f = let z : _≡_ {A = ℕ} 0 1 = cc in absurd (omega arith)
+bytes-kept : {e : Memory} (m : Lent) (bytes : List ℕ) → LendsPlaces e → bytes ≡ bytesAfter e m bytes
+unfolding bytesAfter
+bytes-kept m bytes (places-given e) = rw e
+bytes-kept m bytes (roots-given e) = rw e
 
-module _ {l : Layout} (c : ℕ) {b : State} {bytes places : List ℕ} where
-  -- 0F
-  pub commanded-collection : {x : Option Call} (k : Call) (q : Collection) (places′ : List ℕ) {s : Shown} {a : State} → c ≡ 0x0F → x ≡ some k → Does l k b (collectionIs q places′) a → s ≡ shownOf (collectionIs q places′) →
-      CommandedBy l c b bytes places x (Known s) a bytes places′
+module _ {l : Layout} {e : Memory} {b : State} {bytes places : List ℕ} where
+  -- 0C, 0F
+  pub commanded-collection : {x : Act} (k : Call) (q : Collection) (places′ : List ℕ) {s : Shown} {a : State} → LendsPlaces e → x ≡ make k → Does l k b (collectionIs q places′) a → s ≡ shownOf (collectionIs q places′) →
+      CommandedBy l e b bytes places x (Known s) a bytes places′
   unfolding seen
-  commanded-collection k q places′ e x p t =
+  commanded-collection k q places′ h x p t =
       let m : (step (modelOf l b) k) .lent ≡ list places′ = sym (ap (λ (o : Seen). o .lent) (p .shows)) ∙ collected-lent q places′ in
-      rw x (known-command (shows-does (collectionIs q places′) p t) (bytes-kept c _ bytes (λ z. omega arith)) (places-left c places places′ e m))
+      rw x (known-command (shows-does (collectionIs q places′) p t) (bytes-kept _ bytes h) (places-left _ places places′ h m))
 
   -- 26
-  pub commanded-string : {x : Option Call} (k : Call) (q : Reading) (bytes′ : List ℕ) {s : Shown} {a : State} → c ≡ 0x26 → x ≡ some k → Does l k b (lentReading q bytes′) a → s ≡ shownOf (readingIs q) →
-      CommandedBy l c b bytes places x (Known s) a bytes′ places
-  unfolding seen
-  commanded-string k q bytes′ e x p t =
+  pub commanded-string : {x : Act} (k : Call) (q : Reading) (bytes′ : List ℕ) {s : Shown} {a : State} → e ≡ buffer → x ≡ make k → Does l k b (lentReading q bytes′) a → s ≡ shownOf (readingIs q) →
+      CommandedBy l e b bytes places x (Known s) a bytes′ places
+  unfolding seen bytesAfter placesAfter leftIn
+  commanded-string k q bytes′ h x p t =
       let m : (step (modelOf l b) k) .lent ≡ list bytes′ = sym (ap (λ (o : Seen). o .lent) (p .shows)) ∙ read-lent q bytes′ in
-      rw x (known-command (shows-does (lentReading q bytes′) p (t ∙ shown-read q bytes′)) (bytes-left c bytes bytes′ e m) (places-kept c _ places (λ z. omega arith)))
+      rw x (known-command {bytes′ = bytes′} {places′ = places} (shows-does (lentReading q bytes′) p (t ∙ shown-read q bytes′)) (rw (h, m)) (rw h))
 
-  pub commanded-unknown : {x : Option Call} → x ≡ none → CommandedBy l c b bytes places x Unknown b bytes places
-  commanded-unknown e = rw e unknown-command
+  pub commanded-unknown : {x : Act} → x ≡ no-act → CommandedBy l e b bytes places x Unknown b bytes places
+  unfolding callsIn
+  commanded-unknown q = unknown-command (ap callsIn q)
 
-  -- a command of a group that is lent neither list
-  pub commanded-changed : {x : Option Call} {p : Performed} {a : State} → (c ≡ 0x26 → x ≡ none) → (c ≡ 0x0F → x ≡ none) → ChangedBy b x p a → CommandedBy l c b bytes places x p a bytes places
-  commanded-changed f g unknown-change = unknown-command
-  commanded-changed f g (known-change {k = k} h) = known-command (h l) (bytes-kept c _ bytes (λ e. some-none k refl (f e))) (places-kept c _ places (λ e. some-none k refl (g e)))
+  -- a command that is lent neither list
+  commanded-changed : {x : Act} {p : Performed} {a : State} → e ≡ own → ChangedBy b x p a → CommandedBy l e b bytes places x p a bytes places
+  unfolding bytesAfter placesAfter
+  commanded-changed q (unknown-change z) = unknown-command z
+  commanded-changed q (known-change h) = known-command {bytes′ = bytes} {places′ = places} (h l) (rw q) (rw q)
+  commanded-changed q (both-change h i) = both-command (h l) (i l)
 
-  -- ---- groups of commands, one after the other
-
-  pub commanded-first : {x : Option Call} (y : Option Call) {p : Performed} (s : Shown) {a : State} {bs ps : List ℕ} → CommandedBy l c b bytes places x p a bs ps → p ≡ Known s → CommandedBy l c b bytes places (orElse x y) p a bs ps
-  unfolding orElse
-  commanded-first y s unknown-command e = let z : _≡_ {A = ℕ} 0 1 = cc in absurd (omega arith)
-  commanded-first y s (known-command h f g) e = known-command h f g
-
-  pub commanded-next : {x y : Option Call} {p q : Performed} {d a : State} {bs ps : List ℕ} → ChangedBy b x q d → q ≡ Unknown → CommandedBy l c d bytes places y p a bs ps → CommandedBy l c b bytes places (orElse x y) p a bs ps
-  unfolding orElse
-  commanded-next h e g = let u = unknown-call h e in rw (u .0) (rw (u .1) at g)
+  pub command-same : {x y : Act} {p : Performed} {a : State} {bs ps : List ℕ} → y ≡ x → CommandedBy l e b bytes places x p a bs ps → CommandedBy l e b bytes places y p a bs ps
+  command-same q h = rw q h
 
   -- ---- between commands
 
-  pub ready-after : {x : Option Call} {p : Performed} {a : State} {bs ps marks order marks′ order′ layout table : List ℕ} → CommandedBy l c b bytes places x p a bs ps → Ready b marks order layout table → marks′ ≡ marks → order′ ≡ order →
+  pub ready-after : {x : Act} {p : Performed} {a : State} {bs ps marks order marks′ order′ layout table : List ℕ} → CommandedBy l e b bytes places x p a bs ps → Ready b marks order layout table → marks′ ≡ marks → order′ ≡ order →
       Ready a marks′ order′ layout table
   unfolding modelOf
-  ready-after unknown-command g em eo = record { good = g .good; rested = rw (em, eo) (g .rested); tabled = g .tabled }
+  ready-after (unknown-command z) g em eo = record { good = g .good; rested = rw (em, eo) (g .rested); tabled = g .tabled }
   ready-after (known-command {k = k} {a = a} s f h) g em eo =
       let n : a .heap .size ≡ b .heap .size = ap (λ (m : Model). m .table .size) (s .next) ∙ step-size (modelOf l b) k in
       record { good = s .good; rested = rw (n, em, eo) (g .rested); tabled = g .tabled }
+  ready-after (both-command s u) g em eo = record { good = g .good; rested = rw (em, eo) (g .rested); tabled = g .tabled }
 
-pub ready-unknown : {x : Option Call} {b a : State} {p : Performed} {marks order layout table : List ℕ} → ChangedBy b x p a → p ≡ Unknown → Ready b marks order layout table → Ready a marks order layout table
-ready-unknown h e g = rw (unknown-call h e .1) g
+-- ---- a group of commands, with the heap ready for the next command
 
--- ---- with the heap ready for the next command
+abbrev Performing : Layout → ℕ → Operands → Lists → State → Performed → State → List ℕ → List ℕ → List ℕ → List ℕ → Type 0
+Performing l n o t b p a marks order layout table =
+    CommandedBy l (memoryOf n) b (t .bytes) (t .places) (actOf n o t) p a (t .bytes) (t .places) × (Ready a marks order layout table × ((marks ≡ marks) × (order ≡ order)))
 
-module _ {l : Layout} (c : ℕ) {b : State} {bytes places : List ℕ} where
-  pub group-first : {x : Option Call} (y : Option Call) {p : Performed} (s : Shown) {a : State} {marks order layout table : List ℕ} → (c ≡ 0x26 → x ≡ none) → (c ≡ 0x0F → x ≡ none) → ChangedBy b x p a → p ≡ Known s → Ready b marks order layout table →
-      CommandedBy l c b bytes places (orElse x y) p a bytes places × (Ready a marks order layout table × ((marks ≡ marks) × (order ≡ order)))
-  group-first y s f g h e r =
-      let k = commanded-changed {l = l} c {bytes = bytes} {places = places} f g h in
-      (commanded-first c y s k e, (ready-after c k r refl refl, (refl, refl)))
+module _ {l : Layout} (n : ℕ) (o : Operands) (t : Lists) {g : ℕ} {b a : State} {p : Performed} {marks order layout table : List ℕ} (e : groupOf n ≡ g) (r : Ready b marks order layout table) where
+  own-command : g ≢ 15 → ChangedBy b (actOf n o t) p a → Performing l n o t b p a marks order layout table
+  own-command h c =
+      let k : CommandedBy l (memoryOf n) b (t .bytes) (t .places) (actOf n o t) p a (t .bytes) (t .places) = commanded-changed (memory-own n (λ z. h (sym e ∙ z))) c in
+      (k, (ready-after k r refl refl, (refl, refl)))
 
-  pub group-next : {R : Type 0} {x y : Option Call} {p q : Performed} {d a : State} {bs ps : List ℕ} → ChangedBy b x q d → q ≡ Unknown → CommandedBy l c d bytes places y p a bs ps × R → CommandedBy l c b bytes places (orElse x y) p a bs ps × R
-  group-next h e k = (commanded-next c h e (k .0), k .1)
+  pub read-command : g < 10 → ChangedBy b (actIn (readRows g) n o t) p a → Performing l n o t b p a marks order layout table
+  unfolding readRows actIn choose
+  read-command h c =
+      own-command (λ z. omega arith)
+      (⊎-elim (λ z. act-silent (session-calls n o t (e ∙ z)) (rw z at c)) (λ z. act-same (read-act n o t e h z) c) (same-or-not g 1))
+
+  pub change-command : 10 ≤ g → g < 14 → ChangedBy b (actIn (changeRows g) n o t) p a → Performing l n o t b p a marks order layout table
+  change-command i h c = own-command (λ z. omega arith) (act-same (change-act n o t e i h) c)
+
+  pub list-command : g ≡ 14 → ChangedBy b (actIn newListRows n o t) p a → Performing l n o t b p a marks order layout table
+  list-command i c = own-command (λ z. omega arith) (act-same (list-act n o t (e ∙ i)) c)
+
+-- the last group
+pub lent-command : {l : Layout} (n : ℕ) (o : Operands) (t : Lists) {g : ℕ} {b a : State} {p : Performed} {bs ps marks order marks′ order′ layout table : List ℕ} → groupOf n ≡ g → 14 < g → Ready b marks order layout table →
+    CommandedBy l (memoryOf n) b (t .bytes) (t .places) (actIn lentRows n o t) p a bs ps × ((marks′ ≡ marks) × (order′ ≡ order)) →
+    CommandedBy l (memoryOf n) b (t .bytes) (t .places) (actOf n o t) p a bs ps × (Ready a marks′ order′ layout table × ((marks′ ≡ marks) × (order′ ≡ order)))
+lent-command n o t e i r (c, (em, eo)) = (command-same (lent-act n o t (group-last n (rw (sym e) at i))) c, (ready-after c r em eo, (em, eo)))

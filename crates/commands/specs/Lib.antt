@@ -1,4 +1,3 @@
-pub mod Commands
-pub mod Shows
+pub mod Rows
+pub mod Table
 pub mod Promise
-pub mod Lists

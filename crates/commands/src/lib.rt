@@ -1,37 +1,16 @@
-// Commands of a script: their operands, and what a call shows, as words.
-ghost use mathlib.Core.Path.{_≡_};
-ghost use mathlib.Core.List.{List};
-ghost use Prim.Native.Nat.{ℕ};
-ghost use lib.Ieee.{toBits, binary64};
-ghost use Rattle.model.specs.Replies as Replies;
-ghost use Rattle.map_store.specs.View.{cursorIs, lastIs, position};
-ghost use Rattle.heap.specs.Answers as Heaps;
-ghost use Rattle.access.specs.Answers.{frameIs};
-ghost use Rattle.collections.specs.Answers.{cursorSeen, entrySeen, nextSeen, notedSeen, perhapsIs, stepSeen};
-ghost use Rattle.collector.specs.Answer.{collectionIs};
-ghost use Rattle.commands.specs.Shows as Shows;
-ghost use Rattle.commands.specs.Shows.{orZero, shownOf, withLent};
-use access::FrameRead;
-use collections::CursorRead;
-use collections::EntryRead;
-use collections::Moved;
-use collections::NextInt;
-use collections::Noted;
-use collections::Perhaps;
-use collector::Collection;
-use heap::Done;
-use heap::Kind;
-use heap::Reading;
-use heap::Refusal;
-use heap::Signed;
-use heap::Test;
-use map_store::Cursor;
-use map_store::Found;
-use map_store::Last;
-use words::Inline;
-use words::Raw;
+// The heap as a line controller calls it: every call by its number.
+pub mod changes;
+pub mod readings;
 
-// The operands of a command, lists left out.
+ghost use mathlib.Core.Path.{_≡_};
+ghost use Rattle.layout.specs.Sections.{layoutOf};
+ghost use Rattle.heap.specs.State.{after, before, lent};
+ghost use Rattle.heap.specs.Good.{Ready};
+ghost use Rattle.commands.specs.Table.{actOf, memoryOf, shapeOf};
+ghost use Rattle.commands.specs.Promise.{CommandedBy, lists};
+use heap::Heap;
+
+// The numbers among the operands of a command, in their order; what it does not have is 0.
 pub struct Operands {
     pub a: u64,
     pub b: u64,
@@ -39,299 +18,225 @@ pub struct Operands {
     pub d: u64,
     pub e: u64,
     pub f: u64,
+    pub g: u64,
+    pub h: u64,
 }
 
-// What a call shows: the number of the refusal or 0, the word answered, and what is answered
-// beside it.
-pub struct Shown {
-    pub refusal: u64,
-    pub word: u64,
-    pub x: u64,
-    pub y: u64,
-    pub z: u64,
-    pub u: u64,
-    pub v: u64,
-}
-
-// What came of a command: what its call shows, or that the command names no call.
+// What came of a command: what its calls show, or that it makes none.
 pub enum Performed {
-    Known(Shown),
+    Known(answers::Shown),
     Unknown,
 }
 
-// ---- words
+// The heap's record after a command, and what came of it.
+pub struct Turn {
+    pub heap: Heap,
+    pub performed: Performed,
+}
 
-fn shows(refusal: u64, word: u64, x: u64, y: u64, z: u64, u: u64) -> Shown
-    ensures { λ r. ⌜ r ≡ Shows.shows refusal word x y z u ⌝ }
+// The row of a command. Operands, a hexadecimal digit for each, the first lowest: 1 one byte, 2 two, 3
+// eight, 4 a byte up to 7, 5 a byte up to 3, 6 words, 7 bytes, 8 frames; 15: no such command. How the
+// answer is shown, which memory is lent, and the group of commands.
+pub struct Shape {
+    pub fields: u64,
+    pub form: u64,
+    pub memory: u64,
+    pub group: u64,
+}
+
+// Group, memory, form, operands.
+const ROWS: [u64; 103] = [
+    0x01_0_0_733333333,
+    0x0A_0_0_000000003,
+    0x0A_0_0_000000031,
+    0x0A_0_0_000000011,
+    0x0E_0_0_000000007,
+    0x0A_0_0_000000003,
+    0x03_0_0_000000003,
+    0x0A_0_0_000000031,
+    0x0A_0_0_000000032,
+    0x0E_0_0_000000063,
+    0x0E_0_0_000000631,
+    0x01_0_0_000000003,
+    0x0F_3_0_000000000,
+    0x0A_0_0_000000003,
+    0x0E_0_0_086333331,
+    0x0F_2_0_000000036,
+    0x04_0_0_000000003,
+    0x04_0_0_000000033,
+    0x0B_0_0_000000333,
+    0x0C_0_0_000000033,
+    0x0C_0_0_000000003,
+    0x0B_0_0_000000033,
+    0x03_0_0_000000003,
+    0x0B_0_0_000000033,
+    0x04_0_0_000000033,
+    0x0B_0_0_000000333,
+    0x04_0_0_000000033,
+    0x0B_0_0_000000333,
+    0x05_0_0_000000033,
+    0x0B_0_0_000000333,
+    0x05_0_0_000000003,
+    0x0B_0_0_000000013,
+    0x05_0_0_000000043,
+    0x0B_0_0_000000353,
+    0x03_0_0_000000003,
+    0x03_0_0_000000003,
+    0x03_0_0_000000003,
+    0x03_0_0_000000003,
+    0x0F_1_0_000000033,
+    0x03_0_0_000000003,
+    0x03_0_0_000000003,
+    0x04_0_0_000000003,
+    0x04_0_0_000000003,
+    0x04_0_1_000000003,
+    0x04_0_0_000000003,
+    0x04_0_0_000000003,
+    0x04_0_0_000000003,
+    0x03_0_0_000000003,
+    0x0D_0_0_000003333,
+    0x06_0_1_000000333,
+    0x0D_0_0_000000333,
+    0x06_0_2_000000033,
+    0x0D_0_0_000000333,
+    0x0D_0_0_000000033,
+    0x06_0_0_000000003,
+    0x06_0_0_000000003,
+    0x0D_0_0_000000033,
+    0x06_0_1_000000003,
+    0x06_0_5_000033313,
+    0x0D_0_0_000003333,
+    0x06_0_0_000000033,
+    0x06_0_0_000000003,
+    0x07_0_0_000000003,
+    0x07_0_0_000000003,
+    0x0C_0_1_000000003,
+    0x08_0_1_000000003,
+    0x08_0_0_000000003,
+    0x08_0_0_000000003,
+    0x08_0_0_000000003,
+    0x08_0_4_000000003,
+    0x00_0_0_00000000F,
+    0x00_0_0_00000000F,
+    0x07_0_0_000000003,
+    0x07_0_0_000000003,
+    0x07_0_1_000000003,
+    0x07_0_0_000000003,
+    0x07_0_0_000000003,
+    0x05_0_3_000000033,
+    0x03_0_0_000000003,
+    0x00_0_0_00000000F,
+    0x0C_0_0_000000003,
+    0x09_0_0_000000003,
+    0x09_0_0_000000003,
+    0x09_0_0_000000000,
+    0x09_0_0_000000000,
+    0x09_0_0_000000000,
+    0x09_0_0_000000000,
+    0x00_0_0_00000000F,
+    0x00_0_0_00000000F,
+    0x00_0_0_00000000F,
+    0x00_0_0_00000000F,
+    0x00_0_0_00000000F,
+    0x00_0_0_00000000F,
+    0x00_0_0_00000000F,
+    0x00_0_0_00000000F,
+    0x00_0_0_00000000F,
+    0x02_0_0_000000001,
+    0x02_0_0_000000003,
+    0x02_0_0_000000003,
+    0x02_0_1_000000003,
+    0x02_0_0_000000033,
+    0x02_0_1_000000003,
+    0x02_0_0_000000033,
+];
+
+pub fn shape_of(code: u64) -> Shape
+    ensures { λ r. ⌜ r ≡ shapeOf code ⌝ }
 {
-    Shown {
-        refusal,
-        word,
-        x,
-        y,
-        z,
-        u,
-        v: 0,
+    if 102 < code {
+        return Shape {
+            fields: 15,
+            form: 0,
+            memory: 0,
+            group: 0,
+        };
+    }
+    let row = ROWS[code as usize];
+    Shape {
+        fields: row % 0x10_0000_0000,
+        form: row / 0x10_0000_0000 % 16,
+        memory: row / 0x100_0000_0000 % 16,
+        group: row / 0x1000_0000_0000,
     }
 }
 
-fn bit(b: bool) -> u64
-    ensures { λ r. ⌜ r ≡ Shows.bit b ⌝ }
+// The calls of the command with this number, and what they show. The lists: words (fields, captures,
+// registers or roots), frames of four words each, bytes (a string's, or the buffer it is read
+// into), and the places of the list lent to a collection.
+pub fn perform(
+    heap: Heap,
+    slots: &mut [u64],
+    scalars: &mut [u64],
+    list: &mut [u64],
+    directory: &mut [u64],
+    cells: &mut [u64],
+    marks: &mut [u8],
+    order: &mut [u32],
+    layout: &[u8],
+    table: &[u64],
+    code: u64,
+    o: Operands,
+    words: &[u64],
+    frames: &[u64],
+    bytes: &mut [u8],
+    places: &mut [u64],
+) -> Turn
+    requires { ⌜ Ready (lent heap slots scalars list directory cells) (now marks) (now order) (now layout) (now table) ⌝ }
+    ensures { λ r. ⌜ CommandedBy (layoutOf (now (layout .entry))) (memoryOf code) (before heap slots scalars list directory cells) (now (bytes .entry)) (now (places .entry)) (actOf code o (lists (now (words .entry)) (now (frames .entry)) (now (bytes .entry)) (now (places .entry)))) (r .performed) (after (r .heap) slots scalars list directory cells) (now (bytes .exit)) (now (places .exit)) ⌝ }
+    ensures { λ r. ⌜ Ready (after (r .heap) slots scalars list directory cells) (now (marks .exit)) (now (order .exit)) (now (layout .entry)) (now (table .entry)) ⌝ }
+    ensures { λ r. ⌜ now (marks .exit) ≡ now (marks .entry) ⌝ }
+    ensures { λ r. ⌜ now (order .exit) ≡ now (order .entry) ⌝ }
 {
-    if b { 1 } else { 0 }
-}
-
-// A float's binary64 pattern; every NaN has one.
-fn float_bits(f: f64) -> u64
-    ensures { λ r. ⌜ r ≡ toBits binary64 f ⌝ }
-{
-    if f != f {
-        return 0x7FF8_0000_0000_0000;
+    let s = shape_of(code);
+    let g = s.group;
+    if g < 10 {
+        let p = readings::read_group(g, heap, slots, scalars, list, directory, cells, code, o);
+        return Turn { heap, performed: p };
     }
-    f64::to_bits(f)
-}
-
-fn kind_number(k: Kind) -> u64
-    ensures { λ r. ⌜ r ≡ Heaps.kindNumber k ⌝ }
-{
-    match k {
-        Kind::Nil => 0,
-        Kind::String => 1,
-        Kind::Integer => 2,
-        Kind::Cell => 3,
-        Kind::Error => 4,
-        Kind::Box => 5,
-        Kind::Array => 6,
-        Kind::Map => 7,
-        Kind::Struct => 8,
-        Kind::Function => 9,
-        Kind::Iterator => 10,
-        Kind::Coroutine => 11,
-        Kind::Truth => 12,
-        Kind::Float => 13,
-        Kind::Character => 14,
+    if g < 14 {
+        return changes::change_group(g, heap, slots, scalars, list, directory, cells, code, o);
     }
-}
-
-fn is_seq(l: Last) -> u64
-    ensures { λ r. ⌜ r ≡ Shows.yielded (lastIs l) ⌝ }
-{
-    match l {
-        Last::Never => 0,
-        Last::Seq(q) => 1,
+    if g == 14 {
+        return changes::new_with_list(
+            heap,
+            slots,
+            scalars,
+            list,
+            directory,
+            cells,
+            code,
+            o,
+            words,
+            frames,
+            bytes,
+        );
     }
-}
-
-fn seq_or_zero(l: Last) -> u64
-    ensures { λ r. ⌜ r ≡ orZero (lastIs l) ⌝ }
-{
-    match l {
-        Last::Never => 0,
-        Last::Seq(q) => q,
-    }
-}
-
-// ---- what a call shows, by its answer
-
-pub fn refused(q: Refusal) -> Shown
-    ensures { λ r. ⌜ r ≡ shownOf (Heaps.refused q) ⌝ }
-{
-    shows(heap::number_of(q), 0, 0, 0, 0, 0)
-}
-
-pub fn number(w: u64) -> Shown
-    ensures { λ r. ⌜ r ≡ shownOf (Heaps.answered (Replies.number w)) ⌝ }
-{
-    shows(0, w, 0, 0, 0, 0)
-}
-
-pub fn flag(b: bool) -> Shown
-    ensures { λ r. ⌜ r ≡ shownOf (Heaps.answered (Replies.truth b)) ⌝ }
-{
-    shows(0, bit(b), 0, 0, 0, 0)
-}
-
-pub fn kind(k: Kind) -> Shown
-    ensures { λ r. ⌜ r ≡ shownOf (Heaps.answered (Replies.number (Heaps.kindNumber k))) ⌝ }
-{
-    number(kind_number(k))
-}
-
-pub fn reading(a: Reading) -> Shown
-    ensures { λ r. ⌜ r ≡ shownOf (Heaps.readingIs a) ⌝ }
-{
-    match a {
-        Reading::Is(w) => number(w),
-        Reading::Refused(q) => refused(q),
-    }
-}
-
-// The reference that an allocation made.
-pub fn made(a: Reading) -> Shown
-    ensures { λ r. ⌜ r ≡ shownOf (Heaps.madeIs a) ⌝ }
-{
-    match a {
-        Reading::Is(w) => shows(0, w, 0, 0, 0, 0),
-        Reading::Refused(q) => refused(q),
-    }
-}
-
-pub fn signed(a: Signed) -> Shown
-    ensures { λ r. ⌜ r ≡ shownOf (Heaps.signedIs a) ⌝ }
-{
-    match a {
-        Signed::Is(k) => shows(0, words::bits_of(k), 0, 0, 0, 0),
-        Signed::Refused(q) => refused(q),
-    }
-}
-
-pub fn test(a: Test) -> Shown
-    ensures { λ r. ⌜ r ≡ shownOf (Heaps.testIs a) ⌝ }
-{
-    match a {
-        Test::Is(b) => flag(b),
-        Test::Refused(q) => refused(q),
-    }
-}
-
-pub fn done(a: Done) -> Shown
-    ensures { λ r. ⌜ r ≡ shownOf (Heaps.doneIs a) ⌝ }
-{
-    match a {
-        Done::Accepted => shows(0, 0, 0, 0, 0, 0),
-        Done::Refused(q) => refused(q),
-    }
-}
-
-pub fn perhaps(a: Perhaps) -> Shown
-    ensures { λ r. ⌜ r ≡ shownOf (perhapsIs a) ⌝ }
-{
-    match a {
-        Perhaps::Is(w) => shows(0, w, 1, 0, 0, 0),
-        Perhaps::Absent => shows(0, 0, 0, 0, 0, 0),
-        Perhaps::Refused(q) => refused(q),
-    }
-}
-
-pub fn noted(a: Noted) -> Shown
-    ensures { λ r. ⌜ r ≡ shownOf (notedSeen a) ⌝ }
-{
-    match a {
-        Noted::Is(k) => shows(0, words::bits_of(k), 1, 0, 0, 0),
-        Noted::Nothing => shows(0, 0, 0, 0, 0, 0),
-        Noted::Refused(q) => refused(q),
-    }
-}
-
-pub fn next_int(a: NextInt) -> Shown
-    ensures { λ r. ⌜ r ≡ shownOf (nextSeen a) ⌝ }
-{
-    match a {
-        NextInt::Is(k) => shows(0, words::bits_of(k), 0, 0, 0, 0),
-        NextInt::Past => shows(0, 0, 1, 0, 0, 0),
-        NextInt::Refused(q) => refused(q),
-    }
-}
-
-pub fn entry(a: EntryRead) -> Shown
-    ensures { λ r. ⌜ r ≡ shownOf (entrySeen a) ⌝ }
-{
-    match a {
-        EntryRead::Is(e) => shows(0, e.value, e.hash, e.key, e.seq, bit(e.live)),
-        EntryRead::Refused(q) => refused(q),
-    }
-}
-
-pub fn frame(a: FrameRead) -> Shown
-    ensures { λ r. ⌜ r ≡ shownOf (frameIs a) ⌝ }
-{
-    match a {
-        FrameRead::Is(f) => shows(0, f.function, f.counter, f.base, f.closure, 0),
-        FrameRead::Refused(q) => refused(q),
-    }
-}
-
-pub fn cursor(a: CursorRead) -> Shown
-    ensures { λ r. ⌜ r ≡ shownOf (cursorSeen a) ⌝ }
-{
-    match a {
-        CursorRead::Index(p) => shows(0, p, 6, 0, 0, 0),
-        CursorRead::Map(c) => {
-            let last = c.last;
-            shows(
-                0,
-                c.pos as u64,
-                7,
-                is_seq(last),
-                seq_or_zero(last),
-                c.epoch as u64,
-            )
-        }
-        CursorRead::Refused(q) => refused(q),
-    }
-}
-
-// With the cursor that was lent, as the call left it.
-fn with_cursor(refusal: u64, word: u64, x: u64, c: Cursor) -> Shown
-    ensures { λ r. ⌜ r ≡ withLent (Replies.cursor-at (cursorIs c)) (Shows.shows refusal word x 0 0 0) ⌝ }
-{
-    let last = c.last;
-    Shown {
-        refusal,
-        word,
-        x,
-        y: is_seq(last),
-        z: seq_or_zero(last),
-        u: c.pos as u64,
-        v: c.epoch as u64,
-    }
-}
-
-// A step of the lent cursor c.
-pub fn moved(c: Cursor, a: Moved) -> Shown
-    ensures { λ r. ⌜ r ≡ shownOf (stepSeen (cursorIs c) a) ⌝ }
-{
-    match a {
-        Moved::Is(s) => {
-            let after = s.cursor;
-            let found = s.found;
-            match found {
-                Found::At(p) => with_cursor(0, p as u64, 1, after),
-                Found::Nothing => with_cursor(0, 0, 0, after),
-            }
-        }
-        Moved::Refused(q) => with_cursor(heap::number_of(q), 0, 0, c),
-    }
-}
-
-pub fn collected(a: Collection) -> Shown
-    ensures { λ r. ⌜ ((places : List ℕ) → r ≡ shownOf (collectionIs a places)) ⌝ }
-{
-    match a {
-        Collection::Done(freed, listed) => shows(0, freed, listed, 0, 0, 0),
-        Collection::Refused(q) => refused(q),
-    }
-}
-
-pub fn inline(a: Inline) -> Shown
-    ensures { λ r. ⌜ r ≡ shownOf (Heaps.answered (Replies.inline a)) ⌝ }
-{
-    match a {
-        Inline::Word(w) => shows(0, w, 1, 0, 0, 0),
-        Inline::NoWord => shows(0, 0, 0, 0, 0, 0),
-    }
-}
-
-// A word read: its value, and its kind's number.
-pub fn raw(a: Raw) -> Shown
-    ensures { λ r. ⌜ r ≡ shownOf (Heaps.answered (Replies.raw a)) ⌝ }
-{
-    match a {
-        Raw::Nil => shows(0, 0, 0, 0, 0, 0),
-        Raw::Bool(b) => shows(0, bit(b), 1, 0, 0, 0),
-        Raw::Int(k) => shows(0, words::bits_of(k), 2, 0, 0, 0),
-        Raw::Float(f) => shows(0, float_bits(f), 3, 0, 0, 0),
-        Raw::Char(k) => shows(0, k as u64, 4, 0, 0, 0),
-        Raw::Ref(s, t) => shows(0, (t as u64) * 0x1_0000_0000 + s as u64, 5, 0, 0, 0),
-    }
+    changes::lent_call(
+        heap,
+        slots,
+        scalars,
+        list,
+        directory,
+        cells,
+        marks,
+        order,
+        layout,
+        table,
+        code,
+        o,
+        words,
+        bytes,
+        places,
+    )
 }

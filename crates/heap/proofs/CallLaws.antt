@@ -18,14 +18,14 @@ use Rattle.account.specs.declared.Charged.{Charged}
 use Rattle.account.specs.declared.Charged.the-variants as C
 use Rattle.account.specs.Account.{chargeIs, chargeOf, charged, fits, wantsCollection}
 use Rattle.account.specs.AccountLaws.{charge-next, charge-over}
-use Rattle.slots.specs.Header.{headerAt}
-use Rattle.slots.specs.Lookup.{Finds, hitFirst}
-use Rattle.slots.proofs.LookupLaws.{finds-so}
-use Rattle.slots.specs.declared.Found.{Found}
-use Rattle.slots.specs.declared.Found.the-variants as F
-use Rattle.slots.specs.declared.Header.{Header}
-use Rattle.slots.proofs.Cases.{by-cases, lt-or-le}
-use Rattle.cells.specs.Regions.{rawAt}
+use Rattle.heap_slots.specs.Header.{headerAt}
+use Rattle.heap_slots.specs.Lookup.{Finds, hitFirst}
+use Rattle.heap_slots.proofs.LookupLaws.{finds-so}
+use Rattle.heap_slots.specs.declared.FoundSlot.{FoundSlot}
+use Rattle.heap_slots.specs.declared.FoundSlot.the-variants as F
+use Rattle.heap_slots.specs.declared.Header.{Header}
+use Rattle.heap_slots.proofs.Cases.{by-cases, lt-or-le}
+use Rattle.heap_cells.specs.Regions.{rawAt}
 use Rattle.history.proofs.Facts.{leb-yes, ltb-yes}
 use Rattle.history.proofs.Judging.{fits-so, no-cells-added, says-none}
 use Rattle.history.proofs.Lift.{seen}
@@ -48,6 +48,7 @@ use Rattle.heap.specs.declared.Located.the-variants as L
 use Rattle.heap.specs.declared.Refusal.{Refusal}
 use Rattle.heap.specs.declared.Refusal.the-variants as No
 use Rattle.heap.specs.Answers.{answered, refused}
+use Rattle.heap.specs.Kinds.{LAST-ROW}
 use Rattle.heap.specs.Locating.{Locates, Ranks, rowBy}
 use Rattle.heap.specs.State.{State, modelOf, moreOf, rawOf, slotOf, withHeap, withRegions}
 use Rattle.heap.specs.Good.{Good}
@@ -95,7 +96,7 @@ wants-read {extra = extra} g e = reads-so (Calls.wants-gc extra) g (λ l. refl) 
 
 -- ---- `get`
 
-row-by : (l : Layout) {t : State} {w : ℕ} (f : Found) → Good t → Finds (t .slots) (t .heap .fresh) w f → readOr 0 row (look (viewOf (modelOf l t)) w) ≡ rowBy (t .slots) f
+row-by : (l : Layout) {t : State} {w : ℕ} (f : FoundSlot) → Good t → Finds (t .slots) (t .heap .fresh) w f → readOr 0 row (look (viewOf (modelOf l t)) w) ≡ rowBy (t .slots) f
 unfolding rowBy readOr rawAt
 row-by l {t} {w} (F.At i) g d =
     let h = found-reached g d refl in
@@ -110,13 +111,13 @@ pub get-read : {t : State} {w r : ℕ} → Good t → Ranks (t .slots) (t .heap 
 unfolding terms effect
 get-read {w = w} g d = reads-so (Calls.get w) g (λ l. refl) (λ l. ap (λ (n : ℕ). uncharged [] (number n)) (row-read l g d))
 
-row-max-by : {t : State} {w : ℕ} (f : Found) → Good t → Finds (t .slots) (t .heap .fresh) w f → rowBy (t .slots) f ≤ 11
+row-max-by : {t : State} {w : ℕ} (f : FoundSlot) → Good t → Finds (t .slots) (t .heap .fresh) w f → rowBy (t .slots) f ≤ LAST-ROW
 unfolding rowBy rawAt
 row-max-by (F.At i) g d = g .each i (found-reached g d refl .within) .kind
 row-max-by F.Nothing g d = omega arith
 row-max-by F.Wrong g d = omega arith
 
-pub row-max : {t : State} {w r : ℕ} → Good t → Ranks (t .slots) (t .heap .fresh) w r → r ≤ 11
+pub row-max : {t : State} {w r : ℕ} → Good t → Ranks (t .slots) (t .heap .fresh) w r → r ≤ LAST-ROW
 row-max {t} {w} g d = rw (d .is) (row-max-by (hitFirst (t .slots) (t .heap .fresh) w) g (finds-so refl))
 
 -- ---- `kind` of heap.rs

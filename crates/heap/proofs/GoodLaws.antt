@@ -1,194 +1,60 @@
--- When a slot is good, by its kind. Assumes nothing.
-use Prim.Native.Nat.{ℕ, _+_, _*_, _/_, _≤_, _<_}
-use mathlib.Core.Path.{_≡_, refl}
-use mathlib.Core.List.{List}
+-- When a slot is good, by its row. Assumes nothing.
+use Prim.Native.Nat.{ℕ, _≤_, _<_}
+use mathlib.Core.Path.{_≡_, refl, subst, sym, _∙_}
 use native.Mathlib.Omega.{arith}
-use Rattle.slots.specs.declared.Scalars.{Scalars}
-use Rattle.cells.specs.Moves.{stringCells}
-use Rattle.cells.specs.Regions.{Raw}
-use Rattle.map_store.specs.Map as Map
-use Rattle.history.proofs.Facts.{eqb-no}
-use Rattle.heap.specs.Kinds.{mapOf, roomOf}
-use Rattle.heap.specs.Good.{SlotGood}
-use Rattle.heap.proofs.KindLaws.{rawCells, rawWords}
+use Rattle.heap_slots.specs.Kinds.{ITERATOR, MAP, NONE}
+use Rattle.heap_slots.specs.Limits.{HALF, HALF-END}
+use Rattle.heap_slots.specs.Scalars.{coroutinePart, iteratorPart}
+use Rattle.heap_slots.specs.declared.Scalars.{Scalars}
+use Rattle.heap_slots.proofs.Cases.{by-cases, same-or-not}
+use Rattle.heap_cells.specs.Raw.{RawSlot}
+use Rattle.heap.specs.Kinds.{LAST-ROW}
+use Rattle.heap.specs.Good.{Holds, SlotGood}
+use Rattle.heap.proofs.RowLaws.{by-row}
 
-module _ (r : Raw) (x : Scalars) (lo : 65536 ≤ r .half) (hi : r .half < 131072) where
-  pub good-string : r .kind ≡ 1 → r .size ≡ stringCells (r .len) → SlotGood r x
-  good-string k h = record {
-    half-low = lo;
-    half-high = hi;
-    kind = omega (arith, k);
-    empty = λ e. absurd (omega (arith, e, k));
-    string = λ e. h;
-    integer = λ e. absurd (omega (arith, e, k));
-    cell = λ e. absurd (omega (arith, e, k));
-    error = λ e. absurd (omega (arith, e, k));
-    box = λ e. absurd (omega (arith, e, k));
-    array = λ e. absurd (omega (arith, e, k));
-    map = λ e. absurd (omega (arith, e, k));
-    struct = λ e. absurd (omega (arith, e, k));
-    function = λ e. absurd (omega (arith, e, k));
-    iterator = λ e. absurd (omega (arith, e, k));
-    coroutine = λ e. absurd (omega (arith, e, k));
-  }
+-- what the slot's row asks
+pub holds-as : {r : RawSlot} {x : Scalars} (k : ℕ) → r .kind ≡ k → SlotGood r x → Holds k r x
+holds-as {r} {x} k e g = subst (λ (n : ℕ). Holds n r x) e (g .holds)
 
-  -- integer, cell, error, box
-  pub good-plain : (2 ≤ r .kind) × (r .kind ≤ 5) → r .size ≡ 0 → SlotGood r x
-  good-plain k h = record {
-    half-low = lo;
-    half-high = hi;
-    kind = omega (arith, k);
-    empty = λ e. absurd (omega (arith, e, k));
-    string = λ e. absurd (omega (arith, e, k));
-    integer = λ e. h;
-    cell = λ e. h;
-    error = λ e. h;
-    box = λ e. h;
-    array = λ e. absurd (omega (arith, e, k));
-    map = λ e. absurd (omega (arith, e, k));
-    struct = λ e. absurd (omega (arith, e, k));
-    function = λ e. absurd (omega (arith, e, k));
-    iterator = λ e. absurd (omega (arith, e, k));
-    coroutine = λ e. absurd (omega (arith, e, k));
-  }
+pub good-as : {r : RawSlot} {x : Scalars} (k : ℕ) → r .kind ≡ k → k ≤ LAST-ROW → HALF ≤ r .half → r .half < HALF-END → Holds k r x → SlotGood r x
+good-as {r} {x} k e m lo hi h = record { half-low = lo; half-high = hi; kind = omega (arith, e, m); holds = subst (λ (n : ℕ). Holds n r x) (sym e) h }
 
-  pub good-array : r .kind ≡ 6 → r .len ≤ r .size → SlotGood r x
-  good-array k h = record {
-    half-low = lo;
-    half-high = hi;
-    kind = omega (arith, k);
-    empty = λ e. absurd (omega (arith, e, k));
-    string = λ e. absurd (omega (arith, e, k));
-    integer = λ e. absurd (omega (arith, e, k));
-    cell = λ e. absurd (omega (arith, e, k));
-    error = λ e. absurd (omega (arith, e, k));
-    box = λ e. absurd (omega (arith, e, k));
-    array = λ e. h;
-    map = λ e. absurd (omega (arith, e, k));
-    struct = λ e. absurd (omega (arith, e, k));
-    function = λ e. absurd (omega (arith, e, k));
-    iterator = λ e. absurd (omega (arith, e, k));
-    coroutine = λ e. absurd (omega (arith, e, k));
-  }
+-- integer, cell, error, box
+pub good-plain : {r : RawSlot} {x : Scalars} → 2 ≤ r .kind → r .kind ≤ 5 → HALF ≤ r .half → r .half < HALF-END → r .size ≡ 0 → SlotGood r x
+good-plain {r} {x} from to lo hi h = good-as (r .kind) refl (omega (arith, to)) lo hi (holds (r .kind) from to)
+  where
+    holds : (k : ℕ) → 2 ≤ k → k ≤ 5 → Holds k r x
+    holds k from to =
+        by-row (λ (n : ℕ). 2 ≤ n → n ≤ 5 → Holds n r x) (λ a b. absurd (omega (arith, a))) (λ a b. h) (λ a b. h) (λ a b. h) (λ a b. h) (λ a b. absurd (omega (arith, b))) (λ a b. absurd (omega (arith, b)))
+        (λ a b. absurd (omega (arith, b))) (λ a b. absurd (omega (arith, b))) (λ a b. absurd (omega (arith, b))) (λ a b. absurd (omega (arith, b))) k (omega (arith, from)) (omega (arith, to)) from to
 
-  pub good-map : r .kind ≡ 7 → Map.Good (mapOf r x) (r .cells) → r .size ≡ r .value * 5 + r .mode / 2 → x .g < 4294967296 → SlotGood r x
-  good-map k m h g = record {
-    half-low = lo;
-    half-high = hi;
-    kind = omega (arith, k);
-    empty = λ e. absurd (omega (arith, e, k));
-    string = λ e. absurd (omega (arith, e, k));
-    integer = λ e. absurd (omega (arith, e, k));
-    cell = λ e. absurd (omega (arith, e, k));
-    error = λ e. absurd (omega (arith, e, k));
-    box = λ e. absurd (omega (arith, e, k));
-    array = λ e. absurd (omega (arith, e, k));
-    map = λ e. (m, h, g);
-    struct = λ e. absurd (omega (arith, e, k));
-    function = λ e. absurd (omega (arith, e, k));
-    iterator = λ e. absurd (omega (arith, e, k));
-    coroutine = λ e. absurd (omega (arith, e, k));
-  }
+-- array, struct, function: as many cells as words
+pub good-words : {r : RawSlot} {x : Scalars} → 6 ≤ r .kind → r .kind ≤ 9 → (r .kind ≡ MAP → ⊥) → HALF ≤ r .half → r .half < HALF-END → r .len ≡ r .size → SlotGood r x
+good-words {r} {x} from to no-map lo hi h = good-as (r .kind) refl (omega (arith, to)) lo hi (holds (r .kind) from to no-map)
+  where
+    holds : (k : ℕ) → 6 ≤ k → k ≤ 9 → (k ≡ MAP → ⊥) → Holds k r x
+    holds k from to no-map =
+        by-row (λ (n : ℕ). 6 ≤ n → n ≤ 9 → (n ≡ MAP → ⊥) → Holds n r x) (λ a b c. absurd (omega (arith, a))) (λ a b c. absurd (omega (arith, a))) (λ a b c. absurd (omega (arith, a))) (λ a b c. absurd (omega (arith, a)))
+        (λ a b c. absurd (omega (arith, a))) (λ a b c. omega (arith, h)) (λ a b c. absurd (c refl)) (λ a b c. h) (λ a b c. h) (λ a b c. absurd (omega (arith, b))) (λ a b c. absurd (omega (arith, b)))
+        k (omega (arith, from)) (omega (arith, to)) from to no-map
 
-  -- struct, function
-  pub good-words : (8 ≤ r .kind) × (r .kind ≤ 9) → r .len ≡ r .size → SlotGood r x
-  good-words k h = record {
-    half-low = lo;
-    half-high = hi;
-    kind = omega (arith, k);
-    empty = λ e. absurd (omega (arith, e, k));
-    string = λ e. absurd (omega (arith, e, k));
-    integer = λ e. absurd (omega (arith, e, k));
-    cell = λ e. absurd (omega (arith, e, k));
-    error = λ e. absurd (omega (arith, e, k));
-    box = λ e. absurd (omega (arith, e, k));
-    array = λ e. absurd (omega (arith, e, k));
-    map = λ e. absurd (omega (arith, e, k));
-    struct = λ e. h;
-    function = λ e. h;
-    iterator = λ e. absurd (omega (arith, e, k));
-    coroutine = λ e. absurd (omega (arith, e, k));
-  }
+module _ {r q : RawSlot} {x y : Scalars} (g : SlotGood r x) (same-kind : q .kind ≡ r .kind) (lo : HALF ≤ q .half) (hi : q .half < HALF-END) where
+  -- a slot of the same kind is good again if what its row asks is kept
+  pub good-again : (Holds (r .kind) r x → Holds (r .kind) q y) → SlotGood q y
+  good-again f = good-as (r .kind) same-kind (g .kind) lo hi (f (g .holds))
 
-  pub good-iterator : r .kind ≡ 10 → r .size ≡ 0 → x .g < 4294967296 → SlotGood r x
-  good-iterator k h g = record {
-    half-low = lo;
-    half-high = hi;
-    kind = omega (arith, k);
-    empty = λ e. absurd (omega (arith, e, k));
-    string = λ e. absurd (omega (arith, e, k));
-    integer = λ e. absurd (omega (arith, e, k));
-    cell = λ e. absurd (omega (arith, e, k));
-    error = λ e. absurd (omega (arith, e, k));
-    box = λ e. absurd (omega (arith, e, k));
-    array = λ e. absurd (omega (arith, e, k));
-    map = λ e. absurd (omega (arith, e, k));
-    struct = λ e. absurd (omega (arith, e, k));
-    function = λ e. absurd (omega (arith, e, k));
-    iterator = λ e. (h, g);
-    coroutine = λ e. absurd (omega (arith, e, k));
-  }
+  -- and it is, if lengths and number of frames are kept, and what else a slot without an object, a map and an iterator need
+  pub good-kept : (r .kind ≡ NONE → q .half ≡ r .half) → q .len ≡ r .len → q .size ≡ r .size → coroutinePart y .frames ≡ coroutinePart x .frames → (r .kind ≡ MAP → Holds MAP r x → Holds MAP q y) →
+      (r .kind ≡ ITERATOR → iteratorPart y .epoch ≡ iteratorPart x .epoch) → SlotGood q y
+  good-kept half len size frames map iterator = good-again (holds (r .kind) refl (g .kind))
+    where
+      size-is : r .size ≡ 0 → q .size ≡ 0
+      size-is h = omega (arith, size, h)
 
-  pub good-coroutine : r .kind ≡ 11 → r .size ≡ r .len + 4 * x .f → SlotGood r x
-  good-coroutine k h = record {
-    half-low = lo;
-    half-high = hi;
-    kind = omega (arith, k);
-    empty = λ e. absurd (omega (arith, e, k));
-    string = λ e. absurd (omega (arith, e, k));
-    integer = λ e. absurd (omega (arith, e, k));
-    cell = λ e. absurd (omega (arith, e, k));
-    error = λ e. absurd (omega (arith, e, k));
-    box = λ e. absurd (omega (arith, e, k));
-    array = λ e. absurd (omega (arith, e, k));
-    map = λ e. absurd (omega (arith, e, k));
-    struct = λ e. absurd (omega (arith, e, k));
-    function = λ e. absurd (omega (arith, e, k));
-    iterator = λ e. absurd (omega (arith, e, k));
-    coroutine = λ e. h;
-  }
-
--- ---- what a store may change
-
-module _ {r : Raw} {x : Scalars} (g : SlotGood r x) where
-  -- value, mode and cells, but for a map's
-  good-else : (value mode : ℕ) (c : List ℕ) → (r .kind ≡ 7 → ⊥) → SlotGood (rawCells (rawWords r value mode (r .len)) c) x
-  good-else value mode c h = record {
-    half-low = g .half-low;
-    half-high = g .half-high;
-    kind = g .kind;
-    empty = g .empty;
-    string = g .string;
-    integer = g .integer;
-    cell = g .cell;
-    error = g .error;
-    box = g .box;
-    array = g .array;
-    map = λ e. absurd (h e);
-    struct = g .struct;
-    function = g .function;
-    iterator = g .iterator;
-    coroutine = g .coroutine;
-  }
-
-  pub good-value : (value mode : ℕ) → (r .kind ≡ 7 → ⊥) → SlotGood (rawWords r value mode (r .len)) x
-  good-value value mode h = good-else value mode (r .cells) h
-
-  pub good-cells : (c : List ℕ) → (r .kind ≡ 7 → ⊥) → SlotGood (rawCells r c) x
-  good-cells c h = good-else (r .value) (r .mode) c h
-
-  -- an iterator's scalars
-  pub good-step : (y : Scalars) → r .kind ≡ 10 → y .g < 4294967296 → SlotGood r y
-  good-step y k h = good-iterator r y (g .half-low) (g .half-high) k (g .iterator k .0) h
-
-  -- a coroutine's, but for the number of its frames
-  pub good-parts : (y : Scalars) → r .kind ≡ 11 → y .f ≡ x .f → SlotGood r y
-  good-parts y k h = good-coroutine r y (g .half-low) (g .half-high) k (rw h (g .coroutine k))
-
-pub room-value : (r : Raw) (value mode len : ℕ) → (r .kind ≡ 7 → ⊥) → roomOf (rawWords r value mode len) ≡ roomOf r
-unfolding roomOf
-room-value r value mode len h = rw (eqb-no (r .kind) 7 h)
-
-pub room-cells : (r : Raw) (c : List ℕ) → roomOf (rawCells r c) ≡ roomOf r
-unfolding roomOf
-room-cells r c = refl
+      holds : (k : ℕ) → r .kind ≡ k → k ≤ LAST-ROW → Holds k r x → Holds k q y
+      holds k e m =
+          by-cases (same-or-not k 0)
+          (λ z. subst (λ (n : ℕ). Holds n r x → Holds n q y) (sym z) (λ h. (omega (arith, half (e ∙ z), h .0), size-is (h .1))))
+          (λ nz.
+          by-row (λ (n : ℕ). r .kind ≡ n → Holds n r x → Holds n q y) (λ e h. rw (size, len) h) (λ e. size-is) (λ e. size-is) (λ e. size-is) (λ e. size-is) (λ e h. omega (arith, len, size, h)) map
+          (λ e h. omega (arith, len, size, h)) (λ e h. omega (arith, len, size, h)) (λ e h. (size-is (h .0), omega (arith, iterator e, h .1))) (λ e h. rw (size, len, frames) h) k (omega (arith, nz)) m e)

@@ -5,14 +5,14 @@ use mathlib.Core.List.{List}
 use native.Mathlib.Omega.{arith}
 use lib.ListN.{length, getD}
 use Rattle.account.specs.declared.Account.{Account}
-use Rattle.slots.specs.Header.{headerAt}
-use Rattle.slots.specs.FreeList.{takenSlot}
-use Rattle.slots.specs.declared.Scalars.{Scalars}
-use Rattle.slots.proofs.Cases.{by-cases, lt-or-le, same-or-not}
-use Rattle.cells.specs.Regions.{Laid, Raw, Reserved, rawAt}
-use Rattle.cells.specs.declared.Top.{Top}
-use Rattle.cells.proofs.SumLaws.{sum-ext}
-use Rattle.cells.proofs.RawLaws.{laid-cells, raw-above}
+use Rattle.heap_slots.specs.Header.{headerAt}
+use Rattle.heap_slots.specs.FreeList.{takenSlot}
+use Rattle.heap_slots.specs.declared.Scalars.{Scalars}
+use Rattle.heap_slots.proofs.Cases.{by-cases, lt-or-le, same-or-not}
+use Rattle.heap_cells.specs.Regions.{Laid, RawSlot, Reserved, rawAt}
+use Rattle.heap_cells.specs.declared.Top.{Top}
+use Rattle.heap_cells.proofs.SumLaws.{sum-ext}
+use Rattle.heap_cells.proofs.RawLaws.{laid-cells, raw-above}
 use Rattle.history.proofs.Facts.{eqb-no, eqb-yes}
 use Rattle.history.proofs.Lift.{Seen, seen}
 use Rattle.layout.specs.Layout.{Layout}
@@ -20,13 +20,14 @@ use Rattle.model.specs.Calls.{Call}
 use Rattle.model.specs.Model.{Model}
 use Rattle.model.specs.Step.{step}
 use Rattle.heap.specs.declared.Heap.{Heap}
-use Rattle.heap.specs.State.{State, modelOf, moreOf, rawOf, slotFrom, slotOf, withCells, withRegions, withScalars}
+use Rattle.heap.specs.State.{State, modelOf, moreOf, rawOf, slotFrom, slotOf, withCells, withMoved, withRegions, withScalars}
 use Rattle.heap.specs.Good.{Good, SlotGood}
 use Rattle.heap.specs.Promise.{Does}
 use Rattle.heap.specs.Placing.{Roomy, nextSlot}
 use Rattle.heap.proofs.KindLaws.{object-none}
 use Rattle.heap.proofs.SlotLaws.{slot-unused, slot-used}
 use Rattle.heap.proofs.TouchLaws.{good-again}
+use Rattle.heap.proofs.GoodLaws.{good-as, holds-as}
 use Rattle.heap.proofs.StepLaws.{OwnScalars}
 
 -- from the state b to the state a every object is what it was
@@ -42,24 +43,8 @@ pub record Alike (b a : State) : Type 0 where
   pub laid : Laid (b .heap .fresh) (a .heap .top) (a .heap .entries) (a .slots) (a .directory) (a .cells)
 
 -- a slot without an object is good whatever its scalars are
-empty-good : {r : Raw} {x : Scalars} (y : Scalars) → SlotGood r x → r .kind ≡ 0 → SlotGood r y
-empty-good y g z = record {
-  half-low = g .half-low;
-  half-high = g .half-high;
-  kind = g .kind;
-  empty = g .empty;
-  string = g .string;
-  integer = g .integer;
-  cell = g .cell;
-  error = g .error;
-  box = g .box;
-  array = g .array;
-  map = λ e. absurd (omega (arith, e));
-  struct = g .struct;
-  function = g .function;
-  iterator = λ e. absurd (omega (arith, e));
-  coroutine = λ e. absurd (omega (arith, e));
-}
+empty-good : {r : RawSlot} {x : Scalars} (y : Scalars) → SlotGood r x → r .kind ≡ 0 → SlotGood r y
+empty-good y g z = good-as 0 z (omega arith) (g .half-low) (g .half-high) (holds-as 0 z g)
 
 module _ {b a : State} (g : Good b) (c : Alike b a) where
   alike-slot : (j : ℕ) → j < b .heap .fresh → SlotGood (rawOf a j) (moreOf a j)
@@ -80,10 +65,10 @@ module _ {b a : State} (g : Good b) (c : Alike b a) where
         directory-length = c .directory-length;
         cells-length = c .cells-length;
         each = alike-slot;
-        kind = λ j l. ap (λ (r : Raw). r .kind) (c .raw j l);
-        half = λ j l. ap (λ (r : Raw). r .half) (c .raw j l);
+        kind = λ j l. ap (λ (r : RawSlot). r .kind) (c .raw j l);
+        half = λ j l. ap (λ (r : RawSlot). r .half) (c .raw j l);
         laid = c .laid;
-        taken = used ∙ g .taken ∙ sym (sum-ext (λ j. headerAt (b .slots) j .size) (λ j. headerAt (a .slots) j .size) (b .heap .fresh) (λ j l. ap (λ (r : Raw). r .size) (c .raw j l)));
+        taken = used ∙ g .taken ∙ sym (sum-ext (λ j. headerAt (b .slots) j .size) (λ j. headerAt (a .slots) j .size) (b .heap .fresh) (λ j l. ap (λ (r : RawSlot). r .size) (c .raw j l)));
         cells-fit = omega (arith, g .cells-fit);
       }
 
@@ -161,7 +146,7 @@ alike-cells c′ g e h = record {
 -- regions moved, for room at the top
 module _ {t : State} {size : ℕ} {r : Top} {s′ dir′ c′ : List ℕ} (g : Good t) (w : Reserved (t .heap .fresh) (t .heap .size * 2) size r (t .slots) (t .directory) (t .cells) s′ dir′ c′) where
   abbrev moved : State
-  moved = record { heap = withRegions (t .heap) (t .heap .account) (r .cells) (r .entries) (t .heap .taken); slots = s′; scalars = t .scalars; list = t .list; directory = dir′; cells = c′ }
+  moved = withMoved t (withRegions (t .heap) (t .heap .account) (r .cells) (r .entries) (t .heap .taken)) s′ dir′ c′
 
   alike-reserved : Alike t moved
   alike-reserved = record {

@@ -10,54 +10,26 @@ use lib.IntN.{ℤ}
 use lib.ListN.{length, take, drop}
 use lib.Seq.{length-take-le}
 use Rattle.history.proofs.Facts.{eqb-yes, eqb-no}
-use Rattle.slots.proofs.Cases.{by-cases, same-or-not}
+use Rattle.heap_slots.proofs.Cases.{by-cases, same-or-not}
 use Rattle.words.specs.Word.{signedBits}
-use Rattle.slots.specs.declared.Scalars.{Scalars}
-use Rattle.cells.specs.Moves.{stringBytes, bytesFrom}
-use Rattle.cells.specs.Regions.{Raw}
+use Rattle.heap_slots.specs.declared.Scalars.{Scalars}
+use Rattle.heap_cells.specs.Moves.{stringBytes, bytesFrom}
+use Rattle.heap_cells.specs.Regions.{RawSlot}
 use Rattle.map_store.specs.View.{storeOf}
-use Rattle.model.specs.Content.{Array, Cell, Closure, Content, Coroutine, Error, Iterator, Map, Struct, array, box, cell, cellsOf, closure, coroutine, error, integer, isBox, iterator, map-object, row, string, struct}
+use Rattle.model.specs.Content.{Array, Cell, Closure, Content, Coroutine, Error, Iterator, Map, Struct, array, box, case-coroutine, cell, cellsOf, closure, coroutine, error, integer, isBox, iterator, map-object, row, string, struct}
 use Rattle.model.specs.Slots.{one}
 use Rattle.model.specs.Calls.{noRoom}
 use Rattle.model.specs.Model.{cellsIn, occupied}
 use Rattle.model.specs.Terms.{a-box, a-cell, a-coroutine, a-function, a-map, a-string, a-struct, an-array, an-error, an-integer, an-iterator, iterable}
-use Rattle.heap.specs.Kinds.{contentOf, cursorOf, framesIn, mapOf, objectOf, perhaps, roomOf, yes}
+use Rattle.heap.specs.Kinds.{LAST-ROW, contentOf, cursorOf, framesIn, mapOf, objectOf, perhaps, roomOf, yes}
 use Rattle.heap.specs.Good.{SlotGood}
-
--- ---- the eleven rows
-
-pub by-row : (P : ℕ → Type 0) → P 1 → P 2 → P 3 → P 4 → P 5 → P 6 → P 7 → P 8 → P 9 → P 10 → P 11 → (k : ℕ) → 1 ≤ k → k ≤ 11 → P k
-by-row P a b c d e f g h i j l zero lo hi = absurd (omega arith)
-by-row P a b c d e f g h i j l (suc zero) lo hi = a
-by-row P a b c d e f g h i j l (suc (suc zero)) lo hi = b
-by-row P a b c d e f g h i j l (suc (suc (suc zero))) lo hi = c
-by-row P a b c d e f g h i j l (suc (suc (suc (suc zero)))) lo hi = d
-by-row P a b c d e f g h i j l (suc (suc (suc (suc (suc zero))))) lo hi = e
-by-row P a b c d e f g h i j l (suc (suc (suc (suc (suc (suc zero)))))) lo hi = f
-by-row P a b c d e f g h i j l (suc (suc (suc (suc (suc (suc (suc zero))))))) lo hi = g
-by-row P a b c d e f g h i j l (suc (suc (suc (suc (suc (suc (suc (suc zero)))))))) lo hi = h
-by-row P a b c d e f g h i j l (suc (suc (suc (suc (suc (suc (suc (suc (suc zero))))))))) lo hi = i
-by-row P a b c d e f g h i j l (suc (suc (suc (suc (suc (suc (suc (suc (suc (suc zero)))))))))) lo hi = j
-by-row P a b c d e f g h i j l (suc (suc (suc (suc (suc (suc (suc (suc (suc (suc (suc zero))))))))))) lo hi = l
-by-row P a b c d e f g h i j l (suc (suc (suc (suc (suc (suc (suc (suc (suc (suc (suc (suc k)))))))))))) lo hi = absurd (omega arith)
-
--- the slot as if of kind k
-abbrev pub ofKind : Raw → ℕ → Raw
-ofKind r k = record { half = r .half; kind = k; value = r .value; mode = r .mode; len = r .len; size = r .size; cells = r .cells }
-
--- with other words of the kind's own, other cells, a larger region
-abbrev pub rawWords : Raw → ℕ → ℕ → ℕ → Raw
-rawWords r value mode len = record { half = r .half; kind = r .kind; value = value; mode = mode; len = len; size = r .size; cells = r .cells }
-
-abbrev pub rawCells : Raw → List ℕ → Raw
-rawCells r c = record { half = r .half; kind = r .kind; value = r .value; mode = r .mode; len = r .len; size = r .size; cells = c }
-
-abbrev pub rawGrown : Raw → ℕ → List ℕ → Raw
-rawGrown r size c = record { half = r .half; kind = r .kind; value = r .value; mode = r .mode; len = r .len; size = size; cells = c }
+use Rattle.heap.proofs.GoodLaws.{holds-as}
+pub use Rattle.heap_cells.specs.Raw.{ofKind, rawCells, rawGrown, rawWords}
+pub use Rattle.heap.proofs.RowLaws.{by-row, row-none}
 
 -- ---- contents by kind
 
-module _ (r : Raw) (x : Scalars) where
+module _ (r : RawSlot) (x : Scalars) where
   pub content-string : r .kind ≡ 1 → contentOf r x ≡ string (stringBytes (r .cells) (r .len))
   unfolding contentOf
   content-string e = ap (λ (k : ℕ). contentOf (ofKind r k) x) e
@@ -113,7 +85,7 @@ module _ (r : Raw) (x : Scalars) where
   content-coroutine e = ap (λ (k : ℕ). contentOf (ofKind r k) x) e
 
   -- the contents' row is the kind
-  pub row-of-content : 1 ≤ r .kind → r .kind ≤ 11 → row (contentOf r x) ≡ r .kind
+  pub row-of-content : 1 ≤ r .kind → r .kind ≤ LAST-ROW → row (contentOf r x) ≡ r .kind
   unfolding contentOf row
   row-of-content lo hi = by-row (λ (k : ℕ). row (contentOf (ofKind r k) x) ≡ k) refl refl refl refl refl refl refl refl refl refl refl (r .kind) lo hi
 
@@ -123,60 +95,77 @@ module _ (r : Raw) (x : Scalars) where
 pub record Says (is : Content → Bool) (n : ℕ) : Type 0 where
   pub says : (c : Content) → is c ≡ eqb (row c) n
 
-says-by : (is : Content → Bool) (n : ℕ) → ((x : List ℕ) → is (string x) ≡ eqb 1 n) → ((x : ℤ) → is (integer x) ≡ eqb 2 n) → ((x : Cell) → is (cell x) ≡ eqb 3 n) → ((x : Error) → is (error x) ≡ eqb 4 n) →
-    ((x : ℕ) → is (box x) ≡ eqb 5 n) → ((x : Array) → is (array x) ≡ eqb 6 n) → ((x : Map) → is (map-object x) ≡ eqb 7 n) → ((x : Struct) → is (struct x) ≡ eqb 8 n) → ((x : Closure) → is (closure x) ≡ eqb 9 n) →
-    ((x : Iterator) → is (iterator x) ≡ eqb 10 n) → ((x : Coroutine) → is (coroutine x) ≡ eqb 11 n) → (c : Content) → is c ≡ eqb (row c) n
-unfolding row
-says-by is n a b c d e f g h i j k (string x) = a x
-says-by is n a b c d e f g h i j k (integer x) = b x
-says-by is n a b c d e f g h i j k (cell x) = c x
-says-by is n a b c d e f g h i j k (error x) = d x
-says-by is n a b c d e f g h i j k (box x) = e x
-says-by is n a b c d e f g h i j k (array x) = f x
-says-by is n a b c d e f g h i j k (map-object x) = g x
-says-by is n a b c d e f g h i j k (struct x) = h x
-says-by is n a b c d e f g h i j k (closure x) = i x
-says-by is n a b c d e f g h i j k (iterator x) = j x
-says-by is n a b c d e f g h i j k (coroutine x) = k x
+-- contents by kind, one induction for all laws
+pub by-content : (P : Content → Type 0) → ((x : List ℕ) → P (string x)) → ((x : ℤ) → P (integer x)) → ((x : Cell) → P (cell x)) → ((x : Error) → P (error x)) → ((x : ℕ) → P (box x)) → ((x : Array) → P (array x)) →
+    ((x : Map) → P (map-object x)) → ((x : Struct) → P (struct x)) → ((x : Closure) → P (closure x)) → ((x : Iterator) → P (iterator x)) → ((x : Coroutine) → P (coroutine x)) → (c : Content) → P c
+by-content P a b c d e f g h i j k (string x) = a x
+by-content P a b c d e f g h i j k (integer x) = b x
+by-content P a b c d e f g h i j k (cell x) = c x
+by-content P a b c d e f g h i j k (error x) = d x
+by-content P a b c d e f g h i j k (box x) = e x
+by-content P a b c d e f g h i j k (array x) = f x
+by-content P a b c d e f g h i j k (map-object x) = g x
+by-content P a b c d e f g h i j k (struct x) = h x
+by-content P a b c d e f g h i j k (closure x) = i x
+by-content P a b c d e f g h i j k (iterator x) = j x
+by-content P a b c d e f g h i j k (coroutine x) = k x
 
 pub says-string : Says a-string 1
-says-string = record { says = says-by a-string 1 (λ x. refl) (λ x. refl) (λ x. refl) (λ x. refl) (λ x. refl) (λ x. refl) (λ x. refl) (λ x. refl) (λ x. refl) (λ x. refl) (λ x. refl) }
+unfolding row
+says-string = record { says = search (by-content (λ (c : Content). a-string c ≡ eqb (row c) 1)) }
 
 pub says-integer : Says an-integer 2
-says-integer = record { says = says-by an-integer 2 (λ x. refl) (λ x. refl) (λ x. refl) (λ x. refl) (λ x. refl) (λ x. refl) (λ x. refl) (λ x. refl) (λ x. refl) (λ x. refl) (λ x. refl) }
+unfolding row
+says-integer = record { says = search (by-content (λ (c : Content). an-integer c ≡ eqb (row c) 2)) }
 
 pub says-cell : Says a-cell 3
-says-cell = record { says = says-by a-cell 3 (λ x. refl) (λ x. refl) (λ x. refl) (λ x. refl) (λ x. refl) (λ x. refl) (λ x. refl) (λ x. refl) (λ x. refl) (λ x. refl) (λ x. refl) }
+unfolding row
+says-cell = record { says = search (by-content (λ (c : Content). a-cell c ≡ eqb (row c) 3)) }
 
 pub says-error : Says an-error 4
-says-error = record { says = says-by an-error 4 (λ x. refl) (λ x. refl) (λ x. refl) (λ x. refl) (λ x. refl) (λ x. refl) (λ x. refl) (λ x. refl) (λ x. refl) (λ x. refl) (λ x. refl) }
+unfolding row
+says-error = record { says = search (by-content (λ (c : Content). an-error c ≡ eqb (row c) 4)) }
 
 pub says-box : Says a-box 5
-says-box = record { says = says-by a-box 5 (λ x. refl) (λ x. refl) (λ x. refl) (λ x. refl) (λ x. refl) (λ x. refl) (λ x. refl) (λ x. refl) (λ x. refl) (λ x. refl) (λ x. refl) }
+unfolding row
+says-box = record { says = search (by-content (λ (c : Content). a-box c ≡ eqb (row c) 5)) }
 
 pub says-array : Says an-array 6
-says-array = record { says = says-by an-array 6 (λ x. refl) (λ x. refl) (λ x. refl) (λ x. refl) (λ x. refl) (λ x. refl) (λ x. refl) (λ x. refl) (λ x. refl) (λ x. refl) (λ x. refl) }
+unfolding row
+says-array = record { says = search (by-content (λ (c : Content). an-array c ≡ eqb (row c) 6)) }
 
 pub says-map : Says a-map 7
-says-map = record { says = says-by a-map 7 (λ x. refl) (λ x. refl) (λ x. refl) (λ x. refl) (λ x. refl) (λ x. refl) (λ x. refl) (λ x. refl) (λ x. refl) (λ x. refl) (λ x. refl) }
+unfolding row
+says-map = record { says = search (by-content (λ (c : Content). a-map c ≡ eqb (row c) 7)) }
 
 pub says-struct : Says a-struct 8
-says-struct = record { says = says-by a-struct 8 (λ x. refl) (λ x. refl) (λ x. refl) (λ x. refl) (λ x. refl) (λ x. refl) (λ x. refl) (λ x. refl) (λ x. refl) (λ x. refl) (λ x. refl) }
+unfolding row
+says-struct = record { says = search (by-content (λ (c : Content). a-struct c ≡ eqb (row c) 8)) }
 
 pub says-function : Says a-function 9
-says-function = record { says = says-by a-function 9 (λ x. refl) (λ x. refl) (λ x. refl) (λ x. refl) (λ x. refl) (λ x. refl) (λ x. refl) (λ x. refl) (λ x. refl) (λ x. refl) (λ x. refl) }
+unfolding row
+says-function = record { says = search (by-content (λ (c : Content). a-function c ≡ eqb (row c) 9)) }
 
 pub says-iterator : Says an-iterator 10
-says-iterator = record { says = says-by an-iterator 10 (λ x. refl) (λ x. refl) (λ x. refl) (λ x. refl) (λ x. refl) (λ x. refl) (λ x. refl) (λ x. refl) (λ x. refl) (λ x. refl) (λ x. refl) }
+unfolding row
+says-iterator = record { says = search (by-content (λ (c : Content). an-iterator c ≡ eqb (row c) 10)) }
 
 pub says-coroutine : Says a-coroutine 11
-says-coroutine = record { says = says-by a-coroutine 11 (λ x. refl) (λ x. refl) (λ x. refl) (λ x. refl) (λ x. refl) (λ x. refl) (λ x. refl) (λ x. refl) (λ x. refl) (λ x. refl) (λ x. refl) }
+unfolding row
+says-coroutine = record { says = search (by-content (λ (c : Content). a-coroutine c ≡ eqb (row c) 11)) }
+
+-- what is not a coroutine is read as anything but one
+pub not-coroutine : {A : Type 0} (d : A) (f : Coroutine → A) (c : Content) → (row c ≡ 11 → ⊥) → case-coroutine d f c ≡ d
+unfolding row
+not-coroutine d f =
+    by-content (λ (c : Content). (row c ≡ 11 → ⊥) → case-coroutine d f c ≡ d) (λ x h. refl) (λ x h. refl) (λ x h. refl) (λ x h. refl) (λ x h. refl) (λ x h. refl) (λ x h. refl) (λ x h. refl) (λ x h. refl) (λ x h. refl)
+    (λ x h. absurd (h refl))
 
 -- "the object a call is to iterate": an array or a map
 pub says-iterable : (c : Content) → iterable c ≡ (eqb (row c) 6 || eqb (row c) 7)
 says-iterable c = rw (says-array .says c, says-map .says c)
 
-module _ (r : Raw) (x : Scalars) (lo : 1 ≤ r .kind) (hi : r .kind ≤ 11) where
+module _ (r : RawSlot) (x : Scalars) (lo : 1 ≤ r .kind) (hi : r .kind ≤ LAST-ROW) where
   pub kind-test : {is : Content → Bool} {n : ℕ} → Says is n → is (contentOf r x) ≡ eqb (r .kind) n
   kind-test {n = n} p = p .says (contentOf r x) ∙ ap (λ (k : ℕ). eqb k n) (row-of-content r x lo hi)
 
@@ -189,29 +178,29 @@ module _ (r : Raw) (x : Scalars) (lo : 1 ≤ r .kind) (hi : r .kind ≤ 11) wher
 
 -- ---- room by kind
 
-pub room-array : (r : Raw) → r .kind ≡ 6 → roomOf r ≡ record { capacity = r .size; index = 0 }
+pub room-array : (r : RawSlot) → r .kind ≡ 6 → roomOf r ≡ record { capacity = r .size; index = 0 }
 unfolding roomOf
 room-array r e = ap (λ (k : ℕ). roomOf (ofKind r k)) e
 
-pub room-map : (r : Raw) → r .kind ≡ 7 → roomOf r ≡ record { capacity = r .value; index = r .mode }
+pub room-map : (r : RawSlot) → r .kind ≡ 7 → roomOf r ≡ record { capacity = r .value; index = r .mode }
 unfolding roomOf
 room-map r e = ap (λ (k : ℕ). roomOf (ofKind r k)) e
 
-pub room-none : (r : Raw) → (r .kind ≡ 6 → ⊥) → (r .kind ≡ 7 → ⊥) → roomOf r ≡ noRoom
+pub room-none : (r : RawSlot) → (r .kind ≡ 6 → ⊥) → (r .kind ≡ 7 → ⊥) → roomOf r ≡ noRoom
 unfolding roomOf
 room-none r a b = rw (eqb-no (r .kind) 6 a, eqb-no (r .kind) 7 b)
 
 -- ---- the object of a slot
 
-pub object-none : (r : Raw) (x : Scalars) → r .kind ≡ 0 → objectOf r x ≡ none
+pub object-none : (r : RawSlot) (x : Scalars) → r .kind ≡ 0 → objectOf r x ≡ none
 unfolding objectOf
 object-none r x e = rw (eqb-yes (r .kind) 0 e)
 
-pub object-some : (r : Raw) (x : Scalars) → (r .kind ≡ 0 → ⊥) → objectOf r x ≡ some record { content = contentOf r x; room = roomOf r }
+pub object-some : (r : RawSlot) (x : Scalars) → (r .kind ≡ 0 → ⊥) → objectOf r x ≡ some record { content = contentOf r x; room = roomOf r }
 unfolding objectOf
 object-some r x h = rw (eqb-no (r .kind) 0 h)
 
-pub object-filled : (r : Raw) (x : Scalars) → one (occupied (objectOf r x)) ≡ cond (eqb (r .kind) 0) 0 1
+pub object-filled : (r : RawSlot) (x : Scalars) → one (occupied (objectOf r x)) ≡ cond (eqb (r .kind) 0) 0 1
 unfolding objectOf occupied
 object-filled r x = go (eqb (r .kind) 0)
   where
@@ -231,26 +220,26 @@ unfolding framesIn
 length-framesIn ws k zero = refl
 length-framesIn ws k (suc n) = ap suc (length-framesIn ws (suc k) n)
 
-module _ (r : Raw) (x : Scalars) (g : SlotGood r x) (full : length (r .cells) ≡ r .size) where
+module _ (r : RawSlot) (x : Scalars) (g : SlotGood r x) (full : length (r .cells) ≡ r .size) where
   -- the words of an array, struct, function or coroutine
   pub words-length : r .len ≤ r .size → length (take (r .len) (r .cells)) ≡ r .len
   words-length h = length-take-le (r .len) (r .cells) (omega arith)
 
-  cells-by : (k : ℕ) → r .kind ≡ k → 1 ≤ k → k ≤ 11 → cellsOf (contentOf r x) (roomOf r) ≡ r .size
+  cells-by : (k : ℕ) → r .kind ≡ k → 1 ≤ k → k ≤ LAST-ROW → cellsOf (contentOf r x) (roomOf r) ≡ r .size
   unfolding cellsOf
   cells-by k e lo hi =
       by-row (λ (k : ℕ). r .kind ≡ k → cellsOf (contentOf r x) (roomOf r) ≡ r .size)
-      (λ e. rw (content-string r x e, length-bytesFrom (r .cells) 0 (r .len)) (sym (g .string e)))
-      (λ e. rw (content-integer r x e) (sym (g .integer e)))
-      (λ e. rw (content-cell r x e) (sym (g .cell e)))
-      (λ e. rw (content-error r x e) (sym (g .error e)))
-      (λ e. rw (content-box r x e) (sym (g .box e)))
+      (λ e. rw (content-string r x e, length-bytesFrom (r .cells) 0 (r .len)) (sym (holds-as 1 e g)))
+      (λ e. rw (content-integer r x e) (sym (holds-as 2 e g)))
+      (λ e. rw (content-cell r x e) (sym (holds-as 3 e g)))
+      (λ e. rw (content-error r x e) (sym (holds-as 4 e g)))
+      (λ e. rw (content-box r x e) (sym (holds-as 5 e g)))
       (λ e. rw (content-array r x e, room-array r e))
-      (λ e. rw (content-map r x e, room-map r e) (omega (arith, g .map e .1)))
-      (λ e. rw (content-struct r x e) (words-length (omega (arith, g .struct e)) ∙ g .struct e))
-      (λ e. rw (content-function r x e) (words-length (omega (arith, g .function e)) ∙ g .function e))
-      (λ e. rw (content-iterator r x e) (sym (g .iterator e .0)))
-      (λ e. rw (content-coroutine r x e, length-framesIn (drop (r .len) (r .cells)) 0 (x .f)) (omega (arith, g .coroutine e, words-length (omega (arith, g .coroutine e)))))
+      (λ e. rw (content-map r x e, room-map r e) (omega (arith, holds-as 7 e g .1)))
+      (λ e. rw (content-struct r x e) (words-length (omega (arith, holds-as 8 e g)) ∙ holds-as 8 e g))
+      (λ e. rw (content-function r x e) (words-length (omega (arith, holds-as 9 e g)) ∙ holds-as 9 e g))
+      (λ e. rw (content-iterator r x e) (sym (holds-as 10 e g .0)))
+      (λ e. rw (content-coroutine r x e, length-framesIn (drop (r .len) (r .cells)) 0 (x .f)) (omega (arith, holds-as 11 e g, words-length (omega (arith, holds-as 11 e g)))))
       k lo hi e
 
   pub cells-of-content : (r .kind ≡ 0 → ⊥) → cellsOf (contentOf r x) (roomOf r) ≡ r .size
@@ -260,15 +249,5 @@ module _ (r : Raw) (x : Scalars) (g : SlotGood r x) (full : length (r .cells) �
   unfolding cellsIn
   cells-of-object =
       by-cases (same-or-not (r .kind) 0)
-      (λ e. rw (object-none r x e) (sym (g .empty e .1)))
+      (λ e. rw (object-none r x e) (sym (holds-as 0 e g .1)))
       (λ h. rw (object-some r x h) (cells-of-content h))
-
-positive : (k : ℕ) → (k ≡ 0 → ⊥) → 1 ≤ k
-positive k h = omega arith
-
--- a row that is none of the eleven
-pub row-none : (k : ℕ) → k ≤ 11 → (k ≡ 1 → ⊥) → (k ≡ 2 → ⊥) → (k ≡ 3 → ⊥) → (k ≡ 4 → ⊥) → (k ≡ 5 → ⊥) → (k ≡ 6 → ⊥) → (k ≡ 7 → ⊥) → (k ≡ 8 → ⊥) → (k ≡ 9 → ⊥) → (k ≡ 10 → ⊥) → (k ≡ 11 → ⊥) → 0 ≡ k
-row-none k m a b c d e f g h i j l =
-    by-cases (same-or-not k 0)
-    sym
-    (λ nz. absurd (by-row (λ (n : ℕ). k ≡ n → ⊥) a b c d e f g h i j l k (positive k nz) m refl))

@@ -7,11 +7,12 @@ use native.Mathlib.Omega.{arith}
 use borrow.Author.Tests.{ltb-true}
 use lib.Dec.{eqb, leb, ltb}
 use lib.ListN.{getD, length}
-use Rattle.slots.specs.Header.{headerAt}
-use Rattle.slots.specs.Lookup.{Finds, hitFirst, missed, pick}
-use Rattle.slots.specs.declared.Found.{Found}
-use Rattle.slots.specs.declared.Found.the-variants as F
-use Rattle.slots.specs.declared.Header.{Header}
+use Rattle.heap_slots.specs.Limits.{SLOT-WORDS, SLOTS-MAX, SPAN}
+use Rattle.heap_slots.specs.Header.{headerAt}
+use Rattle.heap_slots.specs.Lookup.{Finds, hitFirst, missed, pick}
+use Rattle.heap_slots.specs.declared.FoundSlot.{FoundSlot}
+use Rattle.heap_slots.specs.declared.FoundSlot.the-variants as F
+use Rattle.heap_slots.specs.declared.Header.{Header}
 use Rattle.history.proofs.Facts.{eqb-no, eqb-yes}
 use Rattle.heap.specs.declared.Located.{Located}
 use Rattle.heap.specs.declared.Located.the-variants.{At, Refused}
@@ -34,25 +35,25 @@ missed-at false true c e = wrong-at e
 missed-at false false true e = wrong-at e
 missed-at false false false e = nothing-at e
 
-hit-at : (a b c : Bool) (m : Found) (j i : ℕ) → (m ≡ F.At i → ⊥) → pick a (pick b (pick c m (F.At j)) m) m ≡ F.At i → (a ≡ true) × (j ≡ i)
+hit-at : (a b c : Bool) (m : FoundSlot) (j i : ℕ) → (m ≡ F.At i → ⊥) → pick a (pick b (pick c m (F.At j)) m) m ≡ F.At i → (a ≡ true) × (j ≡ i)
 hit-at true true true m j i z e = absurd (z e)
 hit-at true true false m j i z e = (refl, (cc))
 hit-at true false c m j i z e = absurd (z e)
 hit-at false b c m j i z e = absurd (z e)
 
-pub found-within : {s : List ℕ} {n w i : ℕ} {f : Found} → Finds s n w f → f ≡ F.At i → i < n
+pub found-within : {s : List ℕ} {n w i : ℕ} {f : FoundSlot} → Finds s n w f → f ≡ F.At i → i < n
 unfolding hitFirst missed
 found-within {s} {n} {w} {i} d e =
-    let h = hit-at (ltb (w % 4294967296) n) (eqb (getD s (w % 4294967296 * 8) 0) (w / 4294967296)) (eqb (getD s (w % 4294967296 * 8 + 1) 0) 0) (missed (w / 4294967296)) (w % 4294967296) i
-    (missed-at (leb 131072 (w / 4294967296)) (eqb (w / 4294967296) 1) (eqb (w / 4294967296) 2)) (sym (d .is) ∙ e) in
-    rw (← h .1) (ltb-true (w % 4294967296) n (h .0))
+    let h = hit-at (ltb (w % SPAN) n) (eqb (getD s (w % SPAN * SLOT-WORDS) 0) (w / SPAN)) (eqb (getD s (w % SPAN * SLOT-WORDS + 1) 0) 0) (missed (w / SPAN)) (w % SPAN) i
+    (missed-at (leb 131072 (w / SPAN)) (eqb (w / SPAN) 1) (eqb (w / SPAN) 2)) (sym (d .is) ∙ e) in
+    rw (← h .1) (ltb-true (w % SPAN) n (h .0))
 
-pub found-fits : {s : List ℕ} {n w i : ℕ} {f : Found} → Finds s n w f → f ≡ F.At i → n ≤ 65536 → n * 8 ≤ length s → (i < 65536) × (i * 8 + 8 ≤ length s)
+pub found-fits : {s : List ℕ} {n w i : ℕ} {f : FoundSlot} → Finds s n w f → f ≡ F.At i → n ≤ SLOTS-MAX → n * SLOT-WORDS ≤ length s → (i < SLOTS-MAX) × (i * SLOT-WORDS + SLOT-WORDS ≤ length s)
 found-fits d e a b = let l = found-within d e in (omega arith, omega arith)
 
 -- ---- the answers
 
-number-by : (s : List ℕ) (kind : ℕ) (f : Found) → locatedNumber (locatedBy s kind f) ≡ targetNumber s kind f
+number-by : (s : List ℕ) (kind : ℕ) (f : FoundSlot) → locatedNumber (locatedBy s kind f) ≡ targetNumber s kind f
 unfolding locatedNumber locatedBy targetNumber numberOf
 number-by s kind (F.At i) = go (eqb (headerAt s i .kind) kind)
   where
@@ -66,7 +67,7 @@ pub locates-so : {s : List ℕ} {n w kind : ℕ} {r : Located} → r ≡ located
 unfolding locatedIn
 locates-so {s} {n} {w} {kind} e = record { is = e; number = ap locatedNumber e ∙ number-by s kind (hitFirst s n w) }
 
-module _ {s : List ℕ} {n w kind : ℕ} {f : Found} (d : Finds s n w f) where
+module _ {s : List ℕ} {n w kind : ℕ} {f : FoundSlot} (d : Finds s n w f) where
   pub locates-nothing : f ≡ F.Nothing → Locates s n w kind (Refused ReachesNothing)
   unfolding locatedIn locatedBy
   locates-nothing e = locates-so (rw (sym (d .is) ∙ e))
@@ -83,7 +84,7 @@ module _ {s : List ℕ} {n w kind : ℕ} {f : Found} (d : Finds s n w f) where
   unfolding locatedIn locatedBy
   locates-other {i} {h} e r k = locates-so (rw (sym (d .is) ∙ e, eqb-no (headerAt s i .kind) kind (λ z. k (ap (λ (x : Header). x .kind) r ∙ z))))
 
-module _ {s : List ℕ} {n w : ℕ} {f : Found} (d : Finds s n w f) where
+module _ {s : List ℕ} {n w : ℕ} {f : FoundSlot} (d : Finds s n w f) where
   pub ranks-nothing : f ≡ F.Nothing → Ranks s n w 0
   unfolding rowBy
   ranks-nothing e = record { is = rw (sym (d .is) ∙ e) }

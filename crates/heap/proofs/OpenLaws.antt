@@ -10,10 +10,11 @@ use borrow.Author.Tests.{leb-true}
 use lib.Dec.{leb}
 use lib.ListN.{List·getD-append, drop, getD, getD-replicate, length, length-append, length-drop, length-replicate, replicate, set}
 use lib.Seq.{drop-cons, set-append-seam}
+use Rattle.heap_slots.specs.Limits.{CELLS-MAX, SLOT-WORDS, SLOTS-MAX}
 use Rattle.words.specs.WordLaws.{and-left, and-right}
-use Rattle.cells.specs.Regions.{sumTo}
-use Rattle.cells.proofs.LaidLaws.{laid-empty}
-use Rattle.slots.specs.FreeList.{freeList}
+use Rattle.heap_cells.specs.Regions.{sumTo}
+use Rattle.heap_cells.proofs.LaidLaws.{laid-empty}
+use Rattle.heap_slots.specs.FreeList.{freeList}
 use Rattle.layout.specs.Layout.{Layout, parse}
 use Rattle.layout.specs.Sections.{LayoutRead, isLayout, openingNumber, layoutOf, readable, tableAfter}
 use Rattle.layout.specs.declared.Checked.{Checked}
@@ -75,8 +76,8 @@ weights-so w h =
 
 -- what long enough buffers are
 pub record RoomFor (size slots scalars list directory marks order : ℕ) : Type 0 where
-  pub slots-fit : size * 8 ≤ slots
-  pub scalars-fit : size * 8 ≤ scalars
+  pub slots-fit : size * SLOT-WORDS ≤ slots
+  pub scalars-fit : size * SLOT-WORDS ≤ scalars
   pub list-fit : size ≤ list
   pub directory-fit : size * 2 ≤ directory
   pub marks-fit : size ≤ marks
@@ -88,14 +89,14 @@ room-so size slots scalars list directory marks order h =
     let d = leb size marks && leb (size * 2) order in
     let c = leb (size * 2) directory && d in
     let b = leb size list && c in
-    let a = leb (size * 8) scalars && b in
-    let h1 : a ≡ true = and-right (leb (size * 8) slots) a h in
-    let h2 : b ≡ true = and-right (leb (size * 8) scalars) b h1 in
+    let a = leb (size * SLOT-WORDS) scalars && b in
+    let h1 : a ≡ true = and-right (leb (size * SLOT-WORDS) slots) a h in
+    let h2 : b ≡ true = and-right (leb (size * SLOT-WORDS) scalars) b h1 in
     let h3 : c ≡ true = and-right (leb size list) c h2 in
     let h4 : d ≡ true = and-right (leb (size * 2) directory) d h3 in
     record {
-      slots-fit = leb-true (size * 8) slots (and-left (leb (size * 8) slots) a h);
-      scalars-fit = leb-true (size * 8) scalars (and-left (leb (size * 8) scalars) b h1);
+      slots-fit = leb-true (size * SLOT-WORDS) slots (and-left (leb (size * SLOT-WORDS) slots) a h);
+      scalars-fit = leb-true (size * SLOT-WORDS) scalars (and-left (leb (size * SLOT-WORDS) scalars) b h1);
       list-fit = leb-true size list (and-left (leb size list) c h2);
       directory-fit = leb-true (size * 2) directory (and-left (leb (size * 2) directory) d h3);
       marks-fit = leb-true size marks (and-left (leb size marks) (leb (size * 2) order) h4);
@@ -151,29 +152,29 @@ opens-unread {o} {t} {x} w e = let f = layout-refused o t x w e in opens-no (f .
 
 record Sizes (o : Opening) : Type 0 where
   some-slot : 1 ≤ o .slots
-  slots-max : o .slots ≤ 65536
-  cells-max : o .cells ≤ 1048576
+  slots-max : o .slots ≤ SLOTS-MAX
+  cells-max : o .cells ≤ CELLS-MAX
   weights : WeightsGood (o .weights)
 
 sizes-so : (o : Opening) → sizesFit o ≡ true → Sizes o
 unfolding sizesFit
 sizes-so o h =
     let a = between 1 (o .slots) 65536 in
-    let b = leb (o .cells) 1048576 in
+    let b = leb (o .cells) CELLS-MAX in
     let h1 = and-right a (b && weightsFit (o .weights)) h in
     let s = and-left a (b && weightsFit (o .weights)) h in
     record {
       some-slot = leb-true 1 (o .slots) (and-left (leb 1 (o .slots)) (leb (o .slots) 65536) s);
       slots-max = leb-true (o .slots) 65536 (and-right (leb 1 (o .slots)) (leb (o .slots) 65536) s);
-      cells-max = leb-true (o .cells) 1048576 (and-left b (weightsFit (o .weights)) h1);
+      cells-max = leb-true (o .cells) CELLS-MAX (and-left b (weightsFit (o .weights)) h1);
       weights = weights-so (o .weights) (and-right b (weightsFit (o .weights)) h1);
     }
 
-pub slots-below : (o : Opening) → sizesFit o ≡ true → o .slots ≤ 65536
+pub slots-below : (o : Opening) → sizesFit o ≡ true → o .slots ≤ SLOTS-MAX
 slots-below o h = sizes-so o h .slots-max
 
 -- a heap without objects, over buffers that hold anything
-new-good : (o : Opening) (s x f d c : List ℕ) → o .cells ≡ length c → Sizes o → o .slots * 8 ≤ length s → o .slots * 8 ≤ length x → o .slots ≤ length f → o .slots * 2 ≤ length d →
+new-good : (o : Opening) (s x f d c : List ℕ) → o .cells ≡ length c → Sizes o → o .slots * SLOT-WORDS ≤ length s → o .slots * SLOT-WORDS ≤ length x → o .slots ≤ length f → o .slots * 2 ≤ length d →
     Good (state (newHeap (o .slots) (o .limit) (o .weights)) s x f d c)
 unfolding sumTo
 new-good o s x f d c e z a b l m = record {

@@ -9,20 +9,21 @@ use native.Mathlib.Numerals.{add-one}
 use borrow.Author.Tests.{leb-false, leb-true, ltb-false, ltb-true}
 use lib.Dec.{eqb, leb, ltb}
 use lib.ListN.{length, getD, set, take, drop, length-set}
+use Rattle.heap_slots.specs.Limits.{BOX-HALF, GENERATIONS, HALF, HALF-END, SLOT-WORDS}
 use Rattle.account.specs.declared.Account.{Account}
 use Rattle.account.specs.Account.{charged, fits, saturated}
-use Rattle.slots.specs.Header.{headerAt, setHeader, withRegion}
-use Rattle.slots.specs.FreeList.{Takes, freeList, takenHalf, takenSlot}
-use Rattle.slots.specs.declared.Header.{Header}
-use Rattle.slots.specs.declared.Scalars.{Scalars}
-use Rattle.slots.specs.declared.Taken.{Taken}
-use Rattle.slots.proofs.Cases.{by-cases, lt-or-le, same-or-not}
-use Rattle.slots.proofs.FreeListLaws.{TakenFacts, free-none, free-pop, listed-taken, taken-facts, taken-max}
-use Rattle.slots.proofs.HeaderLaws.{headerAt-other, headerAt-same, length-setHeader}
-use Rattle.cells.specs.Regions.{Laid, Raw, rawAt, sumTo}
-use Rattle.cells.proofs.SumLaws.{sum-ext, sum-put}
-use Rattle.cells.proofs.RawLaws.{raw-other, raw-same}
-use Rattle.cells.proofs.LaidLaws.{laid-drop, laid-put}
+use Rattle.heap_slots.specs.Header.{headerAt, setHeader, withRegion}
+use Rattle.heap_slots.specs.FreeList.{Takes, freeList, takenHalf, takenSlot}
+use Rattle.heap_slots.specs.declared.Header.{Header}
+use Rattle.heap_slots.specs.declared.Scalars.{Scalars}
+use Rattle.heap_slots.specs.declared.TakenSlot.{TakenSlot}
+use Rattle.heap_slots.proofs.Cases.{by-cases, lt-or-le, same-or-not}
+use Rattle.heap_slots.proofs.FreeListLaws.{TakenFacts, free-none, free-pop, listed-taken, taken-facts, taken-max}
+use Rattle.heap_slots.proofs.HeaderLaws.{headerAt-other, headerAt-same, length-setHeader}
+use Rattle.heap_cells.specs.Regions.{Laid, RawSlot, rawAt, sumTo}
+use Rattle.heap_cells.proofs.SumLaws.{sum-ext, sum-put}
+use Rattle.heap_cells.proofs.RawLaws.{raw-other, raw-same}
+use Rattle.heap_cells.proofs.LaidLaws.{laid-drop, laid-put}
 use Rattle.history.proofs.Facts.{eqb-no, eqb-self, eqb-yes, leb-no, leb-yes}
 use Rattle.history.proofs.Judging.{fits-so, says-none}
 use Rattle.history.proofs.Lift.{seen, step-reuses, step-takes}
@@ -43,17 +44,18 @@ use Rattle.heap.specs.declared.Refusal.{Refusal}
 use Rattle.heap.specs.declared.Refusal.the-variants as No
 use Rattle.heap.specs.Answers.{numberOf}
 use Rattle.heap.specs.Kinds.{contentOf, roomOf}
-use Rattle.heap.specs.State.{State, modelOf, moreOf, rawOf, slotFrom, slotOf}
+use Rattle.heap.specs.State.{State, modelOf, moreOf, rawOf, slotFrom, slotOf, withPlaced}
 use Rattle.heap.specs.Good.{Good, SlotGood, coroutineOf, filled}
 use Rattle.heap.specs.Promise.{Does}
 use Rattle.heap.specs.Placing.{flagOf, grownHeap, judgedNew, newHalf, newHeader, newRaw, newWord, nextRegion, nextSlot, placedPlain, placedRegion}
+use Rattle.heap.proofs.GoodLaws.{good-kept, holds-as}
 use Rattle.heap.proofs.KindLaws.{box-test, cells-of-content, object-some}
 use Rattle.heap.proofs.SlotLaws.{raw-length, slot-listed, slot-missing, slot-unspent, slot-unused, slot-used}
 use Rattle.heap.proofs.DoesLaws.{cells-left, does-5, does-6, does-7}
 
 -- ---- the slot taken
 
-abbrev taken : State → ℕ → Taken
+abbrev taken : State → ℕ → TakenSlot
 taken t kind = record { slot = nextSlot t; half = newHalf t kind; fresh = cond (eqb (t .heap .free) 0) (t .heap .fresh + 1) (t .heap .fresh); free = t .heap .free - 1 }
 
 takes : (t : State) (kind : ℕ) → Takes (t .slots) (t .list) (t .heap .fresh) (t .heap .free) (flagOf kind) (taken t kind)
@@ -61,14 +63,7 @@ takes t kind = record { slot = refl; half = refl; fresh-is = refl; free-is = ref
 
 -- any place for the region: the record's top and entries, and the directory, as they will be
 abbrev placedAt : State → Header → ℕ → ℕ → ℕ → ℕ → ℕ → List ℕ → State
-placedAt t h start entry bytes top entries dir = record {
-  heap = grownHeap (t .heap) (h .kind) bytes (h .size) top entries;
-  slots = setHeader (t .slots) (nextSlot t) (newHeader t h start entry);
-  scalars = t .scalars;
-  list = t .list;
-  directory = dir;
-  cells = t .cells;
-}
+placedAt t h start entry bytes top entries dir = withPlaced t (grownHeap (t .heap) (h .kind) bytes (h .size) top entries) (setHeader (t .slots) (nextSlot t) (newHeader t h start entry)) dir
 
 pub flag-max : (kind : ℕ) → flagOf kind ≤ 32768
 flag-max kind = go (eqb kind 5)
@@ -85,9 +80,9 @@ coroutine-max kind = go (eqb kind 11)
     go false = omega arith
 
 -- a tag with and without the box flag
-tag-of : (n : ℕ) (b : Bool) → 65536 ≤ n → n < 98304 → ((n + cond b 32768 0) % 32768 ≡ n % 32768) × (leb 98304 (n + cond b 32768 0) ≡ b)
-tag-of n true lo hi = (omega arith, leb-yes 98304 (n + 32768) (omega arith))
-tag-of n false lo hi = (omega arith, leb-no 98304 (n + 0) (omega arith))
+tag-of : (n : ℕ) (b : Bool) → HALF ≤ n → n < BOX-HALF → ((n + cond b 32768 0) % GENERATIONS ≡ n % GENERATIONS) × (leb BOX-HALF (n + cond b 32768 0) ≡ b)
+tag-of n true lo hi = (omega arith, leb-yes BOX-HALF (n + 32768) (omega arith))
+tag-of n false lo hi = (omega arith, leb-no BOX-HALF (n + 0) (omega arith))
 
 flag-is : (b : Bool) → flag b ≡ cond b 32768 0
 flag-is true = refl
@@ -107,24 +102,8 @@ unfolding charged
 charged-saturated a n = rw (saturated-twice n)
 
 -- what a slot with an object must meet does not depend on its tag
-any-half : {p : ℕ} (h : Header) (l : List ℕ) (x : Scalars) → SlotGood (newRaw p h l) x → (h .kind ≡ 0 → ⊥) → (half : ℕ) → 65536 ≤ half → half < 131072 → SlotGood (newRaw half h l) x
-any-half h l x g nz half lo hi = record {
-  half-low = lo;
-  half-high = hi;
-  kind = g .kind;
-  empty = λ e. absurd (nz e);
-  string = g .string;
-  integer = g .integer;
-  cell = g .cell;
-  error = g .error;
-  box = g .box;
-  array = g .array;
-  map = g .map;
-  struct = g .struct;
-  function = g .function;
-  iterator = g .iterator;
-  coroutine = g .coroutine;
-}
+any-half : {p : ℕ} (h : Header) (l : List ℕ) (x : Scalars) → SlotGood (newRaw p h l) x → (h .kind ≡ 0 → ⊥) → (half : ℕ) → HALF ≤ half → half < HALF-END → SlotGood (newRaw half h l) x
+any-half h l x g nz half lo hi = good-kept g refl lo hi (λ z. absurd (nz z)) refl refl refl (λ e m. m) (λ e. refl)
 
 module _ {t : State} (g : Good t) (h : Header) (start entry bytes top entries : ℕ) (dir : List ℕ) (some-kind : h .kind ≡ 0 → ⊥) (left : t .heap .free ≡ 0 → t .heap .fresh < t .heap .size) where
   abbrev after : State
@@ -142,7 +121,7 @@ module _ {t : State} (g : Good t) (h : Header) (start entry bytes top entries : 
       (λ z. rw (eqb-yes (t .heap .free) 0 z) (omega arith))
       (λ nz. rw (eqb-no (t .heap .free) 0 nz) (omega arith))
 
-  slot-fits : nextSlot t * 8 + 8 ≤ length (t .slots)
+  slot-fits : nextSlot t * SLOT-WORDS + SLOT-WORDS ≤ length (t .slots)
   slot-fits = omega (arith, facts .within, fresh-fits, g .slots-fit)
 
   -- the slot taken has no object and no cells
@@ -154,7 +133,7 @@ module _ {t : State} (g : Good t) (h : Header) (start entry bytes top entries : 
       (λ nz.
       let e : nextSlot t ≡ getD (t .list) (t .heap .free - 1) 0 = rw (eqb-no (t .heap .free) 0 nz) in
       let k : headerAt (t .slots) (nextSlot t) .kind ≡ 0 = rw e (g .listed .empty (t .heap .free - 1) (omega arith)) in
-      (k, g .each (nextSlot t) l .empty k .1))
+      (k, holds-as 0 k (g .each (nextSlot t) l) .1))
 
   here : headerAt (after .slots) (nextSlot t) ≡ newHeader t h start entry
   here = headerAt-same (t .slots) (nextSlot t) (newHeader t h start entry) slot-fits
@@ -182,7 +161,7 @@ module _ {t : State} (g : Good t) (h : Header) (start entry bytes top entries : 
       let l : nextSlot t < t .heap .fresh = omega (arith, facts .within) in
       rw x (omega (arith, sum-put f f′ (t .heap .fresh) (nextSlot t) l (λ j lj n. same j n), z l)))
 
-  module _ (fit : SlotGood (newRaw 65536 h (take (h .size) (drop start (t .cells)))) (moreOf t (nextSlot t))) (laid : Laid (after .heap .fresh) top entries (after .slots) dir (t .cells))
+  module _ (fit : SlotGood (newRaw HALF h (take (h .size) (drop start (t .cells)))) (moreOf t (nextSlot t))) (laid : Laid (after .heap .fresh) top entries (after .slots) dir (t .cells))
       (dir-length : length dir ≡ length (t .directory)) (room : t .heap .taken + h .size ≤ length (t .cells)) where
     placed-slot : SlotGood (rawOf after (nextSlot t)) (moreOf after (nextSlot t))
     placed-slot = rw placed-raw (any-half h (take (h .size) (drop start (t .cells))) (moreOf t (nextSlot t)) fit some-kind (newHalf t (h .kind)) (omega (arith, facts .low)) (omega (arith, facts .high, flag-max (h .kind))))
@@ -223,10 +202,10 @@ module _ {t : State} (g : Good t) (h : Header) (start entry bytes top entries : 
     -- ---- the model after it
 
     abbrev content : Content
-    content = contentOf (newRaw 65536 h (take (h .size) (drop start (t .cells)))) (moreOf t (nextSlot t))
+    content = contentOf (newRaw HALF h (take (h .size) (drop start (t .cells)))) (moreOf t (nextSlot t))
 
     abbrev space : Room
-    space = roomOf (newRaw 65536 h (take (h .size) (drop start (t .cells))))
+    space = roomOf (newRaw HALF h (take (h .size) (drop start (t .cells))))
 
     content-here : contentOf (rawOf after (nextSlot t)) (moreOf after (nextSlot t)) ≡ content
     unfolding contentOf
@@ -237,10 +216,10 @@ module _ {t : State} (g : Good t) (h : Header) (start entry bytes top entries : 
     space-here = rw placed-raw
 
     box-here : isBox content ≡ eqb (h .kind) 5
-    box-here = box-test (newRaw 65536 h (take (h .size) (drop start (t .cells)))) (moreOf t (nextSlot t)) (omega (arith, some-kind)) (fit .kind)
+    box-here = box-test (newRaw HALF h (take (h .size) (drop start (t .cells)))) (moreOf t (nextSlot t)) (omega (arith, some-kind)) (fit .kind)
 
     -- the generation of the slot's next object
-    taken-gen : takenHalf (t .slots) (t .list) (t .heap .free) ≡ 65536 + (slotOf t (nextSlot t)) .gen
+    taken-gen : takenHalf (t .slots) (t .list) (t .heap .free) ≡ HALF + (slotOf t (nextSlot t)) .gen
     unfolding takenHalf takenSlot slotFrom rawAt
     taken-gen =
         by-cases (same-or-not (t .heap .free) 0)
@@ -254,12 +233,12 @@ module _ {t : State} (g : Good t) (h : Header) (start entry bytes top entries : 
     unfolding slotFrom Slots.filled
     slot-new =
         let n = takenHalf (t .slots) (t .list) (t .heap .free) in
-        let lo : 65536 ≤ n = omega (arith, taken-gen) in
-        let hi : n < 98304 = omega (arith, facts .high) in
+        let lo : HALF ≤ n = omega (arith, taken-gen) in
+        let hi : n < BOX-HALF = omega (arith, facts .high) in
         let v = tag-of n (eqb (h .kind) 5) lo hi in
-        let gen : (n + flagOf (h .kind)) % 32768 ≡ (slotOf t (nextSlot t)) .gen = v .0 ∙ omega (arith, taken-gen) in
-        let kind : rawOf after (nextSlot t) .kind ≡ 0 → ⊥ = λ e. some-kind (sym (ap (λ (r : Raw). r .kind) placed-raw) ∙ e) in
-        let half : rawOf after (nextSlot t) .half ≡ n + flagOf (h .kind) = ap (λ (r : Raw). r .half) placed-raw in
+        let gen : (n + flagOf (h .kind)) % GENERATIONS ≡ (slotOf t (nextSlot t)) .gen = v .0 ∙ omega (arith, taken-gen) in
+        let kind : rawOf after (nextSlot t) .kind ≡ 0 → ⊥ = λ e. some-kind (sym (ap (λ (r : RawSlot). r .kind) placed-raw) ∙ e) in
+        let half : rawOf after (nextSlot t) .half ≡ n + flagOf (h .kind) = ap (λ (r : RawSlot). r .half) placed-raw in
         slot-used after (nextSlot t) (facts .within)
         ∙ rw (object-some (rawOf after (nextSlot t)) (moreOf after (nextSlot t)) kind, content-here, space-here, half, gen, v .1, box-here)
 
@@ -280,8 +259,8 @@ module _ {t : State} (g : Good t) (h : Header) (start entry bytes top entries : 
 
     content-cells : cellsOf content space ≡ h .size
     content-cells =
-        cells-of-content (newRaw 65536 h (take (h .size) (drop start (t .cells)))) (moreOf t (nextSlot t)) fit
-        (ap (λ (r : Raw). length (r .cells)) (sym placed-raw) ∙ raw-length laid (nextSlot t) (facts .within) ∙ ap (λ (r : Raw). r .size) placed-raw)
+        cells-of-content (newRaw HALF h (take (h .size) (drop start (t .cells)))) (moreOf t (nextSlot t)) fit
+        (ap (λ (r : RawSlot). length (r .cells)) (sym placed-raw) ∙ raw-length laid (nextSlot t) (facts .within) ∙ ap (λ (r : RawSlot). r .size) placed-raw)
         some-kind
 
     module _ (l : Layout) (k : Call) {n : ℕ} {x : Lent} (effect-is : effect (viewOf (modelOf l t)) k ≡ add content space) (charge-is : (terms (modelOf l t) k) .charge ≡ some n) (bytes-are : bytes ≡ saturated n)
@@ -399,26 +378,26 @@ module _ {t : State} (g : Good t) (h : Header) (bytes : ℕ) (some-kind : h .kin
       laid-put (g .laid) ((placedRegion t h bytes) .heap .fresh) (nextSlot t) (newHeader t h (t .heap .top) (t .heap .entries)) (omega (arith, m, g .slots-max)) (omega (arith, m, g .slots-fit)) (f .within) (f .old) refl top refl
       (omega (arith, entry, g .directory-fit)) (omega (arith, entry, g .slots-max))
 
-  pub plain-good : Judged t bytes 0 → SlotGood (newRaw 65536 (withRegion h 0 0 0) []) (moreOf t (nextSlot t)) → Good (placedPlain t h bytes)
+  pub plain-good : Judged t bytes 0 → SlotGood (newRaw HALF (withRegion h 0 0 0) []) (moreOf t (nextSlot t)) → Good (placedPlain t h bytes)
   plain-good j fit = placed-good g (withRegion h 0 0 0) 0 0 bytes (t .heap .top) (t .heap .entries) (t .directory) some-kind (j .left) fit (plain-laid (j .left)) refl (j .room)
 
-  pub region-good : Judged t bytes (h .size) → t .heap .top + h .size ≤ length (t .cells) → t .heap .entries < t .heap .size * 2 → SlotGood (newRaw 65536 h (nextRegion t (h .size))) (moreOf t (nextSlot t)) → Good (placedRegion t h bytes)
+  pub region-good : Judged t bytes (h .size) → t .heap .top + h .size ≤ length (t .cells) → t .heap .entries < t .heap .size * 2 → SlotGood (newRaw HALF h (nextRegion t (h .size))) (moreOf t (nextSlot t)) → Good (placedRegion t h bytes)
   region-good j top entry fit =
       placed-good g h (t .heap .top) (t .heap .entries) bytes (t .heap .top + h .size) (t .heap .entries + 1) (set (t .directory) (t .heap .entries) (nextSlot t)) some-kind (j .left) fit (region-laid (j .left) top entry)
       (length-set (t .directory) (t .heap .entries) (nextSlot t)) (j .room)
 
   module _ (l : Layout) (k : Call) {n : ℕ} {x : Lent} (charge-is : (terms (modelOf l t) k) .charge ≡ some n) (bytes-are : bytes ≡ saturated n) (own : first ((terms (modelOf l t) k) .refusals) ≡ 0)
       (lent-is : (terms (modelOf l t) k) .lent-after ≡ x) where
-    pub does-plain : {c : Content} {s : Room} → Judged t bytes 0 → SlotGood (newRaw 65536 (withRegion h 0 0 0) []) (moreOf t (nextSlot t)) → effect (viewOf (modelOf l t)) k ≡ add c s →
-        contentOf (newRaw 65536 (withRegion h 0 0 0) []) (moreOf t (nextSlot t)) ≡ c → roomOf (newRaw 65536 (withRegion h 0 0 0) []) ≡ s →
+    pub does-plain : {c : Content} {s : Room} → Judged t bytes 0 → SlotGood (newRaw HALF (withRegion h 0 0 0) []) (moreOf t (nextSlot t)) → effect (viewOf (modelOf l t)) k ≡ add c s →
+        contentOf (newRaw HALF (withRegion h 0 0 0) []) (moreOf t (nextSlot t)) ≡ c → roomOf (newRaw HALF (withRegion h 0 0 0) []) ≡ s →
         Does l k t record { refusal = 0; answer = reference-made (newWord t (h .kind)); lent = x } (placedPlain t h bytes)
     does-plain j fit effect-is content-is room-is =
         does-placed g (withRegion h 0 0 0) 0 0 bytes (t .heap .top) (t .heap .entries) (t .directory) some-kind (j .left) fit (plain-laid (j .left)) refl (j .room) l k (rw (effect-is, content-is, room-is)) charge-is bytes-are
         (j .in-budget) own lent-is
 
     pub does-region : {c : Content} {s : Room} → Judged t bytes (h .size) → t .heap .top + h .size ≤ length (t .cells) → t .heap .entries < t .heap .size * 2 →
-        SlotGood (newRaw 65536 h (nextRegion t (h .size))) (moreOf t (nextSlot t)) → effect (viewOf (modelOf l t)) k ≡ add c s → contentOf (newRaw 65536 h (nextRegion t (h .size))) (moreOf t (nextSlot t)) ≡ c →
-        roomOf (newRaw 65536 h (nextRegion t (h .size))) ≡ s → Does l k t record { refusal = 0; answer = reference-made (newWord t (h .kind)); lent = x } (placedRegion t h bytes)
+        SlotGood (newRaw HALF h (nextRegion t (h .size))) (moreOf t (nextSlot t)) → effect (viewOf (modelOf l t)) k ≡ add c s → contentOf (newRaw HALF h (nextRegion t (h .size))) (moreOf t (nextSlot t)) ≡ c →
+        roomOf (newRaw HALF h (nextRegion t (h .size))) ≡ s → Does l k t record { refusal = 0; answer = reference-made (newWord t (h .kind)); lent = x } (placedRegion t h bytes)
     does-region j top entry fit effect-is content-is room-is =
         does-placed g h (t .heap .top) (t .heap .entries) bytes (t .heap .top + h .size) (t .heap .entries + 1) (set (t .directory) (t .heap .entries) (nextSlot t)) some-kind (j .left) fit (region-laid (j .left) top entry)
         (length-set (t .directory) (t .heap .entries) (nextSlot t)) (j .room) l k (rw (effect-is, content-is, room-is)) charge-is bytes-are (j .in-budget) own lent-is

@@ -7,15 +7,16 @@ use native.Mathlib.Omega.{arith}
 use borrow.Author.Tests.{eqb-false, eqb-true, leb-false, leb-true}
 use lib.Dec.{eqb, leb}
 use lib.ListN.{length}
+use Rattle.heap_slots.specs.Limits.{BOX-HALF, GENERATIONS, HALF, SLOT-WORDS, SLOTS-MAX}
 use Rattle.words.specs.Word.{decodeWord, refSlot, refTag}
 use Rattle.words.specs.declared.Raw.the-variants as R
-use Rattle.slots.specs.Header.{headerAt}
-use Rattle.slots.specs.Lookup.{Finds, hitFirst}
-use Rattle.slots.specs.declared.Found.{Found}
-use Rattle.slots.specs.declared.Found.the-variants as F
-use Rattle.slots.proofs.Cases.{by-cases, lt-or-le, same-or-not}
-use Rattle.slots.proofs.LookupLaws.{FoundNone, finds-so, found-at, found-nothing, found-wrong}
-use Rattle.cells.specs.Regions.{rawAt}
+use Rattle.heap_slots.specs.Header.{headerAt}
+use Rattle.heap_slots.specs.Lookup.{Finds, hitFirst}
+use Rattle.heap_slots.specs.declared.FoundSlot.{FoundSlot}
+use Rattle.heap_slots.specs.declared.FoundSlot.the-variants as F
+use Rattle.heap_slots.proofs.Cases.{by-cases, lt-or-le, same-or-not}
+use Rattle.heap_slots.proofs.LookupLaws.{FoundNone, finds-so, found-at, found-nothing, found-wrong}
+use Rattle.heap_cells.specs.Regions.{rawAt}
 use Rattle.history.proofs.Facts.{eqb-self, eqb-yes, leb-no, leb-yes}
 use Rattle.history.proofs.Judging.{look-no-slot, look-slot, target-missed, target-nil, target-reached}
 use Rattle.layout.specs.Layout.{Layout}
@@ -41,11 +42,11 @@ use Rattle.heap.proofs.SlotLaws.{halves, slot-unused, slot-used}
 -- ---- a slot's first word and the tag of a reference
 
 -- the box flag and the generation are the tag
-leb-half : (h t : ℕ) → h ≡ 65536 + t → leb 98304 h ≡ leb 0x8000 t
+leb-half : (h t : ℕ) → h ≡ HALF + t → leb BOX-HALF h ≡ leb 0x8000 t
 leb-half h t e =
     by-cases (lt-or-le t 0x8000)
-    (λ l. leb-no 98304 h (omega arith) ∙ sym (leb-no 0x8000 t l))
-    (λ l. leb-yes 98304 h (omega arith) ∙ sym (leb-yes 0x8000 t l))
+    (λ l. leb-no BOX-HALF h (omega arith) ∙ sym (leb-no 0x8000 t l))
+    (λ l. leb-yes BOX-HALF h (omega arith) ∙ sym (leb-yes 0x8000 t l))
 
 beq-self : (b : Bool) → Bool·beq b b ≡ true
 beq-self true = refl
@@ -58,18 +59,18 @@ beq-true false true e = e
 beq-true false false e = refl
 
 -- equal generation and flag: the same tag
-half-is : (h t : ℕ) → 65536 ≤ h → h < 131072 → t < 65536 → t % 0x8000 ≡ h % 32768 → leb 0x8000 t ≡ leb 98304 h → h ≡ 65536 + t
+half-is : (h t : ℕ) → HALF ≤ h → h < 131072 → t < 65536 → t % 0x8000 ≡ h % GENERATIONS → leb 0x8000 t ≡ leb BOX-HALF h → h ≡ HALF + t
 half-is h t lo hi lt e b =
     by-cases (lt-or-le t 0x8000)
-    (λ l. let k : h < 98304 = leb-false 98304 h (sym b ∙ leb-no 0x8000 t l) in omega arith)
-    (λ l. let k : 98304 ≤ h = leb-true 98304 h (sym b ∙ leb-yes 0x8000 t l) in omega arith)
+    (λ l. let k : h < BOX-HALF = leb-false BOX-HALF h (sym b ∙ leb-no 0x8000 t l) in omega arith)
+    (λ l. let k : BOX-HALF ≤ h = leb-true BOX-HALF h (sym b ∙ leb-yes 0x8000 t l) in omega arith)
 
 -- ---- the object that a word reaches
 
 pub record Reached (t : State) (w i : ℕ) : Type 0 where
   pub within : i < t .heap .fresh
   pub present : rawOf t i .kind ≡ 0 → ⊥
-  pub half : rawOf t i .half ≡ 65536 + refTag w
+  pub half : rawOf t i .half ≡ HALF + refTag w
   pub tag : refTag w < 65536
   pub reads : decodeWord w ≡ R.Ref i (refTag w)
 
@@ -133,34 +134,34 @@ module _ (l : Layout) {t : State} {w : ℕ} (g : Good t) where
       (λ e. rw (object-none (rawOf t (refSlot w)) (moreOf t (refSlot w)) e))
       (λ ne.
       rw (object-some (rawOf t (refSlot w)) (moreOf t (refSlot w)) ne)
-      (look-none (refOf (refSlot w) (refTag w)) (rawOf t (refSlot w) .half % 32768) (leb 98304 (rawOf t (refSlot w) .half)) record { content = contentOf (rawOf t (refSlot w)) (moreOf t (refSlot w)); room = roomOf (rawOf t (refSlot w)) }
+      (look-none (refOf (refSlot w) (refTag w)) (rawOf t (refSlot w) .half % GENERATIONS) (leb BOX-HALF (rawOf t (refSlot w) .half)) record { content = contentOf (rawOf t (refSlot w)) (moreOf t (refSlot w)); room = roomOf (rawOf t (refSlot w)) }
       (λ p q. m .none lt ne (half-is (rawOf t (refSlot w) .half) (refTag w) (g .each (refSlot w) lt .half-low) (g .each (refSlot w) lt .half-high) (m .tag) p q))))))
       (λ ge. rw (slot-unused t (refSlot w) ge))
 
   -- nil, or a reference that misses
-  pub nothing-look : {f : Found} → Finds (t .slots) (t .heap .fresh) w f → f ≡ F.Nothing → look (viewOf (modelOf l t)) w ≡ none
+  pub nothing-look : {f : FoundSlot} → Finds (t .slots) (t .heap .fresh) w f → f ≡ F.Nothing → look (viewOf (modelOf l t)) w ≡ none
   unfolding refIn
   nothing-look d e =
       by-cases (found-nothing (halves g) d e)
       (λ nil. look-no-slot (viewOf (modelOf l t)) w (rw nil))
       missed-look
 
-  pub nothing-target : {f : Found} → Finds (t .slots) (t .heap .fresh) w f → f ≡ F.Nothing → (is : Content → Bool) → target (viewOf (modelOf l t)) is w ≡ 1
+  pub nothing-target : {f : FoundSlot} → Finds (t .slots) (t .heap .fresh) w f → f ≡ F.Nothing → (is : Content → Bool) → target (viewOf (modelOf l t)) is w ≡ 1
   nothing-target d e is =
       by-cases (found-nothing (halves g) d e)
       (λ nil. target-nil (viewOf (modelOf l t)) is w nil)
       (λ m. target-missed (viewOf (modelOf l t)) is w (refSlot w) (refTag w) (m .reads) (missed-look m))
 
   -- neither nil nor a reference
-  pub wrong-look : {f : Found} → Finds (t .slots) (t .heap .fresh) w f → f ≡ F.Wrong → look (viewOf (modelOf l t)) w ≡ none
+  pub wrong-look : {f : FoundSlot} → Finds (t .slots) (t .heap .fresh) w f → f ≡ F.Wrong → look (viewOf (modelOf l t)) w ≡ none
   unfolding refIn
   wrong-look d e = look-no-slot (viewOf (modelOf l t)) w (found-wrong (halves g) d none none (λ slot tag. some (refOf slot tag)) e)
 
-  pub wrong-target : {f : Found} → Finds (t .slots) (t .heap .fresh) w f → f ≡ F.Wrong → (is : Content → Bool) → target (viewOf (modelOf l t)) is w ≡ 2
+  pub wrong-target : {f : FoundSlot} → Finds (t .slots) (t .heap .fresh) w f → f ≡ F.Wrong → (is : Content → Bool) → target (viewOf (modelOf l t)) is w ≡ 2
   unfolding target
   wrong-target d e is = found-wrong (halves g) d 1 2 _ e
 
-pub found-reached : {t : State} {w i : ℕ} {f : Found} → Good t → Finds (t .slots) (t .heap .fresh) w f → f ≡ F.At i → Reached t w i
+pub found-reached : {t : State} {w i : ℕ} {f : FoundSlot} → Good t → Finds (t .slots) (t .heap .fresh) w f → f ≡ F.At i → Reached t w i
 unfolding rawAt
 found-reached g d e =
     let a = found-at (halves g) d e in
@@ -184,7 +185,7 @@ picked-refused : (b : Bool) (j : ℕ) {q : Refusal} → pick b (At j) (Refused O
 picked-refused true j x = absurd (at-refused x)
 picked-refused false j x = (refl, (cc))
 
-at-by : {t : State} {w i kind : ℕ} (f : Found) → Good t → Finds (t .slots) (t .heap .fresh) w f → locatedBy (t .slots) kind f ≡ At i → Target t w i kind
+at-by : {t : State} {w i kind : ℕ} (f : FoundSlot) → Good t → Finds (t .slots) (t .heap .fresh) w f → locatedBy (t .slots) kind f ≡ At i → Target t w i kind
 unfolding locatedBy rawAt
 at-by {t} {kind = kind} (F.At j) g d x =
     let p = picked-at (eqb (headerAt (t .slots) j .kind) kind) x in
@@ -193,7 +194,7 @@ at-by {t} {kind = kind} (F.At j) g d x =
 at-by F.Nothing g d x = absurd (at-refused (sym x))
 at-by F.Wrong g d x = absurd (at-refused (sym x))
 
-refused-by : (l : Layout) {t : State} {w kind : ℕ} {is : Content → Bool} {q : Refusal} → Says is kind → (f : Found) → Good t → Finds (t .slots) (t .heap .fresh) w f → locatedBy (t .slots) kind f ≡ Refused q →
+refused-by : (l : Layout) {t : State} {w kind : ℕ} {is : Content → Bool} {q : Refusal} → Says is kind → (f : FoundSlot) → Good t → Finds (t .slots) (t .heap .fresh) w f → locatedBy (t .slots) kind f ≡ Refused q →
     target (viewOf (modelOf l t)) is w ≡ numberOf q
 unfolding locatedBy rawAt numberOf unless
 refused-by l {t} {kind = kind} {is = is} s (F.At j) g d x =
@@ -222,13 +223,13 @@ target-met l {t} {w} {i} {kind} {is} g h s =
     reached-target (h .reached) l is ∙ rw (kind-test (rawOf t i) (moreOf t i) (omega (arith, h .reached .present)) k s ∙ eqb-yes (rawOf t i .kind) kind (h .kind-is))
 
 -- the words of the slot lie in the buffers
-pub slot-fits : {t : State} {w i : ℕ} → Good t → Reached t w i → (i < 65536) × (i * 8 + 8 ≤ length (t .slots))
+pub slot-fits : {t : State} {w i : ℕ} → Good t → Reached t w i → (i < SLOTS-MAX) × (i * SLOT-WORDS + SLOT-WORDS ≤ length (t .slots))
 slot-fits g h = (omega (arith, h .within, g .fresh, g .slots-max), omega (arith, h .within, g .fresh, g .slots-fit))
 
-pub scalars-fit : {t : State} {w i : ℕ} → Good t → Reached t w i → (i < 65536) × (i * 8 + 8 ≤ length (t .scalars))
+pub scalars-fit : {t : State} {w i : ℕ} → Good t → Reached t w i → (i < SLOTS-MAX) × (i * SLOT-WORDS + SLOT-WORDS ≤ length (t .scalars))
 scalars-fit g h = (omega (arith, h .within, g .fresh, g .slots-max), omega (arith, h .within, g .fresh, g .scalars-fit))
 
-pub located-fits : {t : State} {w kind i : ℕ} {r : Located} → Good t → Locates (t .slots) (t .heap .fresh) w kind r → r ≡ At i → (i < 65536) × (i * 8 + 8 ≤ length (t .slots))
+pub located-fits : {t : State} {w kind i : ℕ} {r : Located} → Good t → Locates (t .slots) (t .heap .fresh) w kind r → r ≡ At i → (i < SLOTS-MAX) × (i * SLOT-WORDS + SLOT-WORDS ≤ length (t .slots))
 located-fits g d e = slot-fits g (located-at g d e .reached)
 
 -- it is of no other kind

@@ -7,7 +7,7 @@ use mathlib.Core.Option.{none}
 use lib.IntN.{ℤ}
 use lib.ListN.{take, drop}
 use Rattle.words.specs.Word.{signedBits}
-use Rattle.cells.specs.Moves.{stringBytes}
+use Rattle.heap_cells.specs.Moves.{stringBytes}
 use Rattle.map_store.specs.Store.{emptyStore}
 use Rattle.map_store.specs.View.{storeOf}
 use Rattle.layout.specs.Layout.{Layout, isTraced}

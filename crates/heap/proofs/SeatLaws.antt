@@ -6,24 +6,26 @@ use mathlib.Core.List.{List}
 use native.Mathlib.Omega.{arith}
 use lib.Dec.{eqb, ltb}
 use lib.ListN.{getD, length, set}
+use Rattle.heap_slots.specs.Limits.{HALF-END, SLOT-WORDS, SLOTS-MAX, SPAN}
 use Rattle.account.specs.declared.Account.{Account}
 use Rattle.account.specs.declared.Charged.{Charged}
 use Rattle.account.specs.declared.Charged.the-variants as C
 use Rattle.account.specs.Account.{chargeIs, chargeOf, fits}
 use Rattle.account.specs.AccountLaws.{charge-next, charge-over}
-use Rattle.slots.specs.Header.{headerAt, setHeader, withHalf, withRegion}
-use Rattle.slots.specs.FreeList.{Takes, takenHalf, takenSlot}
-use Rattle.slots.specs.declared.Header.{Header}
-use Rattle.slots.specs.declared.Taken.{Taken}
-use Rattle.slots.proofs.Cases.{by-cases, same-or-not}
-use Rattle.slots.proofs.FreeListLaws.{taken-facts, taken-max}
-use Rattle.cells.proofs.SumLaws.{sum-le}
+use Rattle.heap_slots.specs.Header.{headerAt, setHeader, withHalf, withRegion}
+use Rattle.heap_slots.specs.FreeList.{Takes, takenHalf, takenSlot}
+use Rattle.heap_slots.specs.declared.Header.{Header}
+use Rattle.heap_slots.specs.declared.TakenSlot.{TakenSlot}
+use Rattle.heap_slots.proofs.Cases.{by-cases, same-or-not}
+use Rattle.heap_slots.proofs.FreeListLaws.{taken-facts, taken-max}
+use Rattle.heap_cells.proofs.SumLaws.{sum-le}
 use Rattle.history.proofs.Facts.{eqb-no, eqb-yes, leb-no, leb-yes, ltb-no, ltb-yes}
 use Rattle.heap.specs.declared.Heap.{Heap}
 use Rattle.heap.specs.declared.Made.{Made}
 use Rattle.heap.specs.declared.Reading.the-variants.{Is}
 use Rattle.heap.specs.declared.Done.the-variants.{Accepted, Refused}
 use Rattle.heap.specs.declared.Refusal.the-variants as No
+use Rattle.heap.specs.Record.{withObjects}
 use Rattle.heap.specs.State.{State, state, withRegions}
 use Rattle.heap.specs.Good.{Good, coroutineOf}
 use Rattle.heap.specs.Placing.{PlacesPlain, PlacesRegion, PlainObject, RegionObject, Seatable, Seats, flagOf, judgedNew, nextSlot, placedPlain, placedRegion}
@@ -87,35 +89,22 @@ module _ {h : Heap} {s list : List ℕ} {bytes size : ℕ} (g : Seatable h s lis
   pub seat-charged : {r : Charged} → chargeIs (h .account) r ≡ chargeOf (h .account) bytes → r ≡ C.Refused → ⊥
   seat-charged e z = let y : true ≡ false = sym (g .in-budget) ∙ charge-over (h .account) bytes e z in let w : _≡_ {A = ℕ} 0 1 = cc in absurd (omega arith)
 
-  module _ {flag : ℕ} {t : Taken} (e : Takes s list (h .fresh) (h .free) flag t) where
-    pub seat-slot : (t .slot < 65536) × (t .slot * 8 + 8 ≤ length s)
+  module _ {flag : ℕ} {t : TakenSlot} (e : Takes s list (h .fresh) (h .free) flag t) where
+    pub seat-slot : (t .slot < SLOTS-MAX) × (t .slot * SLOT-WORDS + SLOT-WORDS ≤ length s)
     seat-slot =
         let f = taken-facts (g .listed) e in
         let m = taken-max (h .size) e (g .fresh) (g .left) in
         (omega (arith, f .within, m, g .slots-max), omega (arith, f .within, m, g .slots-fit))
 
-    pub seat-half : flag ≤ 32768 → t .half < 131072
+    pub seat-half : flag ≤ 32768 → t .half < HALF-END
     seat-half l = omega (arith, taken-facts (g .listed) e .high)
 
 -- the record after it
-abbrev pub seatedHeap : Heap → Account → Taken → ℕ → ℕ → Heap
-seatedHeap h a t size coroutine = record {
-  account = a;
-  weights = h .weights;
-  size = h .size;
-  fresh = t .fresh;
-  free = t .free;
-  top = h .top;
-  entries = h .entries;
-  taken = h .taken + size;
-  present = h .present + 1;
-  coroutines = h .coroutines + coroutine;
-  collections = h .collections;
-  freed = h .freed;
-}
+abbrev pub seatedHeap : Heap → Account → TakenSlot → ℕ → ℕ → Heap
+seatedHeap h a t size coroutine = withObjects h a (t .fresh) (t .free) (h .top) (h .entries) (h .taken + size) (h .present + 1) (h .coroutines + coroutine)
 
-pub seats : (h : Heap) {s s′ list : List ℕ} (bytes : ℕ) (hd : Header) {flag coroutine : ℕ} {t : Taken} {c : Charged} {a : Account} → Takes s list (h .fresh) (h .free) flag t → flag ≡ flagOf (hd .kind) → coroutine ≡ coroutineOf (hd .kind) → chargeIs (h .account) c ≡ chargeOf (h .account) bytes → c ≡ C.Next a →
-    s′ ≡ setHeader s (t .slot) (withHalf hd (t .half)) → Seats h s list hd bytes record { heap = seatedHeap h a t (hd .size) coroutine; answer = Is (t .half * 4294967296 + t .slot) } s′
+pub seats : (h : Heap) {s s′ list : List ℕ} (bytes : ℕ) (hd : Header) {flag coroutine : ℕ} {t : TakenSlot} {c : Charged} {a : Account} → Takes s list (h .fresh) (h .free) flag t → flag ≡ flagOf (hd .kind) → coroutine ≡ coroutineOf (hd .kind) → chargeIs (h .account) c ≡ chargeOf (h .account) bytes → c ≡ C.Next a →
+    s′ ≡ setHeader s (t .slot) (withHalf hd (t .half)) → Seats h s list hd bytes record { heap = seatedHeap h a t (hd .size) coroutine; answer = Is (t .half * SPAN + t .slot) } s′
 seats h {s} {list = list} bytes hd {t = t} e f o p q w =
     let half : t .half ≡ takenHalf s list (h .free) + flagOf (hd .kind) = e .half ∙ ap (λ (n : ℕ). takenHalf s list (h .free) + n) f in
     record {

@@ -6,12 +6,12 @@ use mathlib.Core.List.{List}
 use mathlib.Core.Option.{Option}
 use native.Mathlib.Omega.{arith}
 use lib.ListN.{length}
-use Rattle.slots.specs.Header.{headerAt}
-use Rattle.slots.specs.FreeList.{freeList}
-use Rattle.slots.specs.Lookup.{Halves}
-use Rattle.slots.proofs.FreeListLaws.{free-none, free-pop}
-use Rattle.cells.specs.Regions.{Laid, rawAt, sumTo}
-use Rattle.cells.proofs.RawLaws.{region-length}
+use Rattle.heap_slots.specs.Header.{headerAt}
+use Rattle.heap_slots.specs.FreeList.{freeList}
+use Rattle.heap_slots.specs.Lookup.{Halves}
+use Rattle.heap_slots.proofs.FreeListLaws.{free-none, free-pop}
+use Rattle.heap_cells.specs.Regions.{Laid, rawAt, sumTo}
+use Rattle.heap_cells.proofs.RawLaws.{region-length}
 use Rattle.history.proofs.Facts.{ltb-no, ltb-yes}
 use Rattle.layout.specs.Layout.{Layout}
 use Rattle.map_store.specs.Store.{Room}

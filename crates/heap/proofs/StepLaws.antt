@@ -6,20 +6,21 @@ use mathlib.Core.List.{List}
 use native.Mathlib.Omega.{arith}
 use lib.ListN.{length, getD, set, length-set}
 use lib.Seq.{getD-set-other}
+use Rattle.heap_slots.specs.Limits.{SLOT-WORDS}
 use Rattle.account.specs.declared.Account.{Account}
-use Rattle.slots.specs.Header.{headerAt, scalarsAt, setHeader, setScalars, withScalar}
-use Rattle.slots.specs.declared.Header.{Header}
-use Rattle.slots.specs.declared.Scalars.{Scalars}
-use Rattle.slots.proofs.Cases.{by-cases, same-or-not}
-use Rattle.slots.proofs.HeaderLaws.{headerAt-other, headerAt-same, length-setHeader, length-setScalars, scalarsAt-other, scalarsAt-same, store-len, store-mode, store-other, store-scalar, store-scalar-other, store-value}
-use Rattle.cells.specs.Regions.{Grown, rawAt, regionOf}
-use Rattle.cells.specs.Regions as Regions
-use Rattle.cells.specs.declared.Top.{Top}
-use Rattle.cells.proofs.RawLaws.{laid-cells, raw-region}
-use Rattle.cells.proofs.RawLaws as Cells
-use Rattle.cells.proofs.LaidLaws.{laid-regions}
+use Rattle.heap_slots.specs.Header.{headerAt, scalarsAt, setHeader, setScalars, withScalar, withWords}
+use Rattle.heap_slots.specs.declared.Header.{Header}
+use Rattle.heap_slots.specs.declared.Scalars.{Scalars}
+use Rattle.heap_slots.proofs.Cases.{by-cases, same-or-not}
+use Rattle.heap_slots.proofs.HeaderLaws.{headerAt-other, headerAt-same, length-setHeader, length-setScalars, scalarsAt-other, scalarsAt-same, store-len, store-mode, store-other, store-scalar, store-scalar-other, store-value}
+use Rattle.heap_cells.specs.Regions.{Grown, rawAt, regionOf}
+use Rattle.heap_cells.specs.Regions as Regions
+use Rattle.heap_cells.specs.declared.Top.{Top}
+use Rattle.heap_cells.proofs.RawLaws.{laid-cells, raw-region}
+use Rattle.heap_cells.proofs.RawLaws as Cells
+use Rattle.heap_cells.proofs.LaidLaws.{laid-regions}
 use Rattle.heap.specs.declared.Heap.{Heap}
-use Rattle.heap.specs.State.{State, rawOf, withCells, withHeap, withRegions, withScalars, withSlots}
+use Rattle.heap.specs.State.{State, rawOf, withCells, withHeap, withMoved, withRegions, withScalars, withSlots}
 use Rattle.heap.proofs.KindLaws.{rawCells, rawGrown, rawWords}
 use Rattle.heap.proofs.TouchLaws.{Touched}
 
@@ -27,7 +28,7 @@ use Rattle.heap.proofs.TouchLaws.{Touched}
 
 -- a header with other words of the kind's own
 abbrev pub ownWords : Header → ℕ → ℕ → ℕ → Header
-ownWords h value mode len = record { half = h .half; kind = h .kind; value = value; mode = mode; len = len; size = h .size; start = h .start; entry = h .entry }
+ownWords h value mode len = withWords h value mode len
 
 -- the kind's own words of slot i's header
 pub record OwnWords (s s′ : List ℕ) (i value mode len : ℕ) : Type 0 where
@@ -46,27 +47,27 @@ pub record OwnCells (c c′ : List ℕ) (from n : ℕ) : Type 0 where
   pub same-length : length c′ ≡ length c
   pub outside : (q : ℕ) → (q < from) ⊎ (from + n ≤ q) → getD c′ q 0 ≡ getD c q 0
 
-module _ {s s′ : List ℕ} {i : ℕ} (fits : i * 8 + 8 ≤ length s) where
-  pub own-value : {v : ℕ} → s′ ≡ set s (i * 8 + 2) v → OwnWords s s′ i v (headerAt s i .mode) (headerAt s i .len)
-  own-value {v} e = rw e record { same-length = length-set s (i * 8 + 2) v; here = store-value s i v fits; others = λ j ne. store-other s i j 2 v (omega arith) ne }
+module _ {s s′ : List ℕ} {i : ℕ} (fits : i * SLOT-WORDS + SLOT-WORDS ≤ length s) where
+  pub own-value : {v : ℕ} → s′ ≡ set s (i * SLOT-WORDS + 2) v → OwnWords s s′ i v (headerAt s i .mode) (headerAt s i .len)
+  own-value {v} e = rw e record { same-length = length-set s (i * SLOT-WORDS + 2) v; here = store-value s i v fits; others = λ j ne. store-other s i j 2 v (omega arith) ne }
 
-  pub own-mode : {v : ℕ} → s′ ≡ set s (i * 8 + 3) v → OwnWords s s′ i (headerAt s i .value) v (headerAt s i .len)
-  own-mode {v} e = rw e record { same-length = length-set s (i * 8 + 3) v; here = store-mode s i v fits; others = λ j ne. store-other s i j 3 v (omega arith) ne }
+  pub own-mode : {v : ℕ} → s′ ≡ set s (i * SLOT-WORDS + 3) v → OwnWords s s′ i (headerAt s i .value) v (headerAt s i .len)
+  own-mode {v} e = rw e record { same-length = length-set s (i * SLOT-WORDS + 3) v; here = store-mode s i v fits; others = λ j ne. store-other s i j 3 v (omega arith) ne }
 
-  pub own-len : {v : ℕ} → s′ ≡ set s (i * 8 + 4) v → OwnWords s s′ i (headerAt s i .value) (headerAt s i .mode) v
-  own-len {v} e = rw e record { same-length = length-set s (i * 8 + 4) v; here = store-len s i v fits; others = λ j ne. store-other s i j 4 v (omega arith) ne }
+  pub own-len : {v : ℕ} → s′ ≡ set s (i * SLOT-WORDS + 4) v → OwnWords s s′ i (headerAt s i .value) (headerAt s i .mode) v
+  own-len {v} e = rw e record { same-length = length-set s (i * SLOT-WORDS + 4) v; here = store-len s i v fits; others = λ j ne. store-other s i j 4 v (omega arith) ne }
 
   pub own-header : {value mode len : ℕ} → s′ ≡ setHeader s i (ownWords (headerAt s i) value mode len) → OwnWords s s′ i value mode len
   own-header {value} {mode} {len} e =
       let h = ownWords (headerAt s i) value mode len in
       rw e record { same-length = length-setHeader s i h; here = headerAt-same s i h fits; others = λ j ne. headerAt-other s i j h ne }
 
-module _ {x x′ : List ℕ} {i : ℕ} (fits : i * 8 + 8 ≤ length x) where
+module _ {x x′ : List ℕ} {i : ℕ} (fits : i * SLOT-WORDS + SLOT-WORDS ≤ length x) where
   pub own-scalars : {y : Scalars} → x′ ≡ setScalars x i y → OwnScalars x x′ i y
   own-scalars {y} e = rw e record { same-length = length-setScalars x i y; here = scalarsAt-same x i y fits; others = λ j ne. scalarsAt-other x i j y ne }
 
-  pub own-scalar : (k v : ℕ) → k < 8 → x′ ≡ set x (i * 8 + k) v → OwnScalars x x′ i (withScalar (scalarsAt x i) k v)
-  own-scalar k v lk e = rw e record { same-length = length-set x (i * 8 + k) v; here = store-scalar x i k v lk fits; others = λ j ne. store-scalar-other x i j k v lk ne }
+  pub own-scalar : (k v : ℕ) → k < SLOT-WORDS → x′ ≡ set x (i * SLOT-WORDS + k) v → OwnScalars x x′ i (withScalar (scalarsAt x i) k v)
+  own-scalar k v lk e = rw e record { same-length = length-set x (i * SLOT-WORDS + k) v; here = store-scalar x i k v lk fits; others = λ j ne. store-scalar-other x i j k v lk ne }
 
 pub own-cell : {c c′ : List ℕ} (from n p v : ℕ) → p < n → c′ ≡ set c (from + p) v → OwnCells c c′ from n
 own-cell {c} from n p v l e =
@@ -171,7 +172,7 @@ module _ {b m : State} {i : ℕ} (c : Touched b m i) where
 
   -- the region grows, and the regions may move
   pub touched-grown : {size taken : ℕ} {t : Top} {s′ dir′ c′ : List ℕ} → Grown (b .heap .fresh) i size t (m .slots) (m .directory) (m .cells) s′ dir′ c′ → taken + headerAt (m .slots) i .size ≡ m .heap .taken + size →
-      taken ≤ length (b .cells) → Touched b record { heap = withRegions (m .heap) (m .heap .account) (t .cells) (t .entries) taken; slots = s′; scalars = m .scalars; list = m .list; directory = dir′; cells = c′ } i
+      taken ≤ length (b .cells) → Touched b (withMoved m (withRegions (m .heap) (m .heap .account) (t .cells) (t .entries) taken) s′ dir′ c′) i
   unfolding rawAt
   touched-grown {size} {taken} {t} {s′} {dir′} {c′} w e fits = record {
     heap = ap (λ (h : Heap). withRegions h (m .heap .account) (t .cells) (t .entries) taken) (c .heap);

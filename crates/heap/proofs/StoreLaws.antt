@@ -5,9 +5,9 @@ use mathlib.Core.Bool.{true}
 use mathlib.Core.Option.{Option, none, some}
 use native.Mathlib.Omega.{arith}
 use Rattle.account.specs.Account.{charged, fits}
-use Rattle.slots.proofs.Cases.{by-cases, same-or-not}
-use Rattle.slots.specs.declared.Scalars.{Scalars}
-use Rattle.cells.specs.Regions.{Raw}
+use Rattle.heap_slots.proofs.Cases.{by-cases, same-or-not}
+use Rattle.heap_slots.specs.declared.Scalars.{Scalars}
+use Rattle.heap_cells.specs.Regions.{RawSlot}
 use Rattle.history.proofs.Judging.{fits-so, no-cells-added, says-none}
 use Rattle.history.proofs.Lift.{seen, step-stores}
 use Rattle.layout.specs.Layout.{Layout}
@@ -37,7 +37,7 @@ pub record Stored (b a : State) (i : ℕ) (p : Content → Content) (q : Content
   pub room : roomOf (rawOf a i) ≡ q (contentOf (rawOf b i) (moreOf b i)) (roomOf (rawOf b i))
 
 -- from what slot i holds after it
-pub stored : {b a : State} {i : ℕ} {p : Content → Content} {q : Content → Room → Room} {r : Raw} {x : Scalars} → Touched b a i → rawOf a i ≡ r → moreOf a i ≡ x → SlotGood r x →
+pub stored : {b a : State} {i : ℕ} {p : Content → Content} {q : Content → Room → Room} {r : RawSlot} {x : Scalars} → Touched b a i → rawOf a i ≡ r → moreOf a i ≡ x → SlotGood r x →
     contentOf r x ≡ p (contentOf (rawOf b i) (moreOf b i)) → roomOf r ≡ q (contentOf (rawOf b i) (moreOf b i)) (roomOf (rawOf b i)) → Stored b a i p q
 stored c er ex g h k = record { touched = c; slot-good = rw (er, ex) g; content = rw (er, ex) h; room = rw er k }
 

@@ -6,11 +6,12 @@ use mathlib.Core.Option.{Option, none, some}
 use native.Mathlib.Omega.{arith}
 use lib.Dec.{eqb, leb}
 use lib.ListN.{length}
+use Rattle.heap_slots.specs.Limits.{BOX-HALF, GENERATIONS, HALF, LAST-GENERATION}
 use Rattle.account.specs.Account.{afterSweep, saturated}
-use Rattle.slots.specs.FreeList.{freeList}
-use Rattle.slots.specs.declared.Scalars.{Scalars}
-use Rattle.slots.proofs.Cases.{by-cases, lt-or-le, same-or-not}
-use Rattle.cells.specs.Regions.{Raw}
+use Rattle.heap_slots.specs.FreeList.{freeList}
+use Rattle.heap_slots.specs.declared.Scalars.{Scalars}
+use Rattle.heap_slots.proofs.Cases.{by-cases, lt-or-le, same-or-not}
+use Rattle.heap_cells.specs.Regions.{RawSlot}
 use Rattle.history.proofs.Facts.{eqb-no, eqb-yes, leb-no}
 use Rattle.history.proofs.Judging.{no-cells-added, says-none}
 use Rattle.history.proofs.Lift.{seen, step-sweeps}
@@ -34,34 +35,34 @@ use Rattle.heap.proofs.SlotLaws.{slot-unused, slot-used}
 -- ---- one slot
 
 -- the word of the object in slot i
-abbrev pub wordAt : ℕ → Raw → ℕ
-wordAt i r = word record { gen = r .half % 32768; boxed = leb 98304 (r .half); slot = i }
+abbrev pub wordAt : ℕ → RawSlot → ℕ
+wordAt i r = word record { gen = r .half % GENERATIONS; boxed = leb BOX-HALF (r .half); slot = i }
 
 -- "generation grows by 1, but 32,767 is retired"
 unfoldable pub freedHalf : ℕ → ℕ
-freedHalf half = 65536 + cond (eqb (half % 32768) 32767) 32767 (half % 32768 + 1)
+freedHalf half = HALF + cond (eqb (half % GENERATIONS) LAST-GENERATION) LAST-GENERATION (half % GENERATIONS + 1)
 
-freed-tag : (half : ℕ) → (freedHalf half % 32768 ≡ cond (eqb (half % 32768) 32767) (half % 32768) (suc (half % 32768))) × (leb 98304 (freedHalf half) ≡ false)
+freed-tag : (half : ℕ) → (freedHalf half % GENERATIONS ≡ cond (eqb (half % GENERATIONS) LAST-GENERATION) (half % GENERATIONS) (suc (half % GENERATIONS))) × (leb BOX-HALF (freedHalf half) ≡ false)
 unfolding freedHalf
 freed-tag half =
-    by-cases (same-or-not (half % 32768) 32767)
-    (λ e. rw (eqb-yes (half % 32768) 32767 e) (sym e, leb-no 98304 (65536 + 32767) (omega arith)))
-    (λ ne. rw (eqb-no (half % 32768) 32767 ne) (omega arith, leb-no 98304 (65536 + (half % 32768 + 1)) (omega arith)))
+    by-cases (same-or-not (half % GENERATIONS) LAST-GENERATION)
+    (λ e. rw (eqb-yes (half % GENERATIONS) LAST-GENERATION e) (sym e, leb-no BOX-HALF (HALF + LAST-GENERATION) (omega arith)))
+    (λ ne. rw (eqb-no (half % GENERATIONS) LAST-GENERATION ne) (omega arith, leb-no BOX-HALF (HALF + (half % GENERATIONS + 1)) (omega arith)))
 
 module _ (f : ℕ → Content → Option Content) (i : ℕ) where
   -- a slot without an object stays
-  pub swept-empty : (r : Raw) (x y : Scalars) → r .kind ≡ 0 → slotFrom r y ≡ slotAfter f i (slotFrom r x)
+  pub swept-empty : (r : RawSlot) (x y : Scalars) → r .kind ≡ 0 → slotFrom r y ≡ slotAfter f i (slotFrom r x)
   unfolding slotFrom slotAfter Slots.slotFrom
   swept-empty r x y z = rw (object-none r x z, object-none r y z)
 
   -- an object is kept, perhaps with other contents
-  pub swept-kept : (r r′ : Raw) (x x′ : Scalars) → (r .kind ≡ 0 → ⊥) → (r′ .kind ≡ 0 → ⊥) → r′ .half ≡ r .half → roomOf r′ ≡ roomOf r → f (wordAt i r) (contentOf r x) ≡ some (contentOf r′ x′) →
+  pub swept-kept : (r r′ : RawSlot) (x x′ : Scalars) → (r .kind ≡ 0 → ⊥) → (r′ .kind ≡ 0 → ⊥) → r′ .half ≡ r .half → roomOf r′ ≡ roomOf r → f (wordAt i r) (contentOf r x) ≡ some (contentOf r′ x′) →
       slotFrom r′ x′ ≡ slotAfter f i (slotFrom r x)
   unfolding slotFrom slotAfter Slots.slotFrom slotTo
   swept-kept r r′ x x′ z z′ h q e = rw (object-some r x z, object-some r′ x′ z′, e, q, h)
 
   -- an object is freed
-  pub swept-freed : (r r′ : Raw) (x x′ : Scalars) → (r .kind ≡ 0 → ⊥) → r′ .kind ≡ 0 → r′ .half ≡ freedHalf (r .half) → f (wordAt i r) (contentOf r x) ≡ none → slotFrom r′ x′ ≡ slotAfter f i (slotFrom r x)
+  pub swept-freed : (r r′ : RawSlot) (x x′ : Scalars) → (r .kind ≡ 0 → ⊥) → r′ .kind ≡ 0 → r′ .half ≡ freedHalf (r .half) → f (wordAt i r) (contentOf r x) ≡ none → slotFrom r′ x′ ≡ slotAfter f i (slotFrom r x)
   unfolding slotFrom slotAfter Slots.slotFrom slotTo freedSlot freedHalf
   swept-freed r r′ x x′ z z′ h e = rw (object-some r x z, object-none r′ x′ z′, e, h, freed-tag (r .half) .0, freed-tag (r .half) .1)
 

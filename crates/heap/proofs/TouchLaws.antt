@@ -6,12 +6,13 @@ use mathlib.Core.Option.{some}
 use native.Mathlib.Omega.{arith}
 use lib.Dec.{eqb, leb}
 use lib.ListN.{length, getD}
+use Rattle.heap_slots.specs.Limits.{BOX-HALF, GENERATIONS}
 use Rattle.words.specs.Word.{refTag}
 use Rattle.account.specs.declared.Account.{Account}
-use Rattle.slots.specs.Header.{headerAt}
-use Rattle.slots.proofs.Cases.{by-cases, lt-or-le, same-or-not}
-use Rattle.cells.specs.Regions.{Laid, Raw, rawAt, sizesOf}
-use Rattle.cells.proofs.SumLaws.{sum-ext, sum-put}
+use Rattle.heap_slots.specs.Header.{headerAt}
+use Rattle.heap_slots.proofs.Cases.{by-cases, lt-or-le, same-or-not}
+use Rattle.heap_cells.specs.Regions.{Laid, RawSlot, rawAt, sizesOf}
+use Rattle.heap_cells.proofs.SumLaws.{sum-ext, sum-put}
 use Rattle.history.proofs.Facts.{eqb-no, eqb-self}
 use Rattle.history.proofs.Lift.{amended-hit}
 use Rattle.layout.specs.Layout.{Layout}
@@ -133,15 +134,15 @@ module _ {b a : State} {i : ℕ} (g : Good b) (within : i < b .heap .fresh) (c :
     directory-length = c .directory-length;
     cells-length = c .cells-length;
     each = each-slot;
-    kind = λ j l. by-cases (same-or-not j i) (λ e. rw e (c .kind)) (λ ne. ap (λ (r : Raw). r .kind) (c .others j l ne));
-    half = λ j l. by-cases (same-or-not j i) (λ e. rw e (c .half)) (λ ne. ap (λ (r : Raw). r .half) (c .others j l ne));
+    kind = λ j l. by-cases (same-or-not j i) (λ e. rw e (c .kind)) (λ ne. ap (λ (r : RawSlot). r .kind) (c .others j l ne));
+    half = λ j l. by-cases (same-or-not j i) (λ e. rw e (c .half)) (λ ne. ap (λ (r : RawSlot). r .half) (c .others j l ne));
     laid = c .laid;
     taken =
         omega (
           arith,
           c .taken,
           g .taken,
-          sum-put (λ j. headerAt (b .slots) j .size) (λ j. headerAt (a .slots) j .size) (b .heap .fresh) i within (λ j l ne. ap (λ (r : Raw). r .size) (c .others j l ne)),
+          sum-put (λ j. headerAt (b .slots) j .size) (λ j. headerAt (a .slots) j .size) (b .heap .fresh) i within (λ j l ne. ap (λ (r : RawSlot). r .size) (c .others j l ne)),
         );
     cells-fit = c .cells-fit;
   }
@@ -167,8 +168,8 @@ module _ {b a : State} {w i : ℕ} (o : Reached b w i) (c : Touched b a i) (p : 
   slot-here =
       let fresh : a .heap .fresh ≡ b .heap .fresh = ap (λ (x : Heap). x .fresh) (c .heap) in
       let before = slot-used b i (o .within) in
-      let gen : rawOf b i .half % 32768 ≡ (refOf i (refTag w)) .gen = ap (λ (s : Slot). s .gen) (sym before) ∙ sym (reached-gen o) in
-      let boxed : leb 98304 (rawOf b i .half) ≡ (refOf i (refTag w)) .boxed = ap (λ (s : Slot). s .boxed) (sym before) ∙ sym (reached-boxed o) in
+      let gen : rawOf b i .half % GENERATIONS ≡ (refOf i (refTag w)) .gen = ap (λ (s : Slot). s .gen) (sym before) ∙ sym (reached-gen o) in
+      let boxed : leb BOX-HALF (rawOf b i .half) ≡ (refOf i (refTag w)) .boxed = ap (λ (s : Slot). s .boxed) (sym before) ∙ sym (reached-boxed o) in
       let kind : rawOf a i .kind ≡ 0 → ⊥ = λ e. o .present (sym (c .kind) ∙ e) in
       slot-used a i (omega (arith, o .within))
       ∙ rw (object-some (rawOf a i) (moreOf a i) kind, content, room, c .half, gen, boxed)

@@ -1,5 +1,6 @@
 -- What the answers of the calls mean: document 01's number for each refusal, and the answer of the model.
 use Prim.Native.Nat.{ℕ}
+use Rattle.heap_slots.specs.Kinds.{ARRAY, BOX, CELL, COROUTINE, ERROR, FUNCTION, INTEGER, ITERATOR, MAP, NONE, STRING, STRUCT}
 use Rattle.model.specs.Replies.{Reply, nothing, number, signed, truth, reference-made, reply, no-memory}
 use Rattle.history.proofs.Lift.{Seen}
 use Rattle.heap.specs.declared.Refusal.{Refusal}
@@ -62,18 +63,18 @@ madeIs (Read.Refused q) = refused q
 
 -- `kind` of heap.rs: nil is 0, an object's kind its row, 12 truth, 13 float, 14 character
 unfoldable pub kindNumber : Kind → ℕ
-kindNumber K.Nil = 0
-kindNumber K.String = 1
-kindNumber K.Integer = 2
-kindNumber K.Cell = 3
-kindNumber K.Error = 4
-kindNumber K.Box = 5
-kindNumber K.Array = 6
-kindNumber K.Map = 7
-kindNumber K.Struct = 8
-kindNumber K.Function = 9
-kindNumber K.Iterator = 10
-kindNumber K.Coroutine = 11
+kindNumber K.Nil = NONE
+kindNumber K.String = STRING
+kindNumber K.Integer = INTEGER
+kindNumber K.Cell = CELL
+kindNumber K.Error = ERROR
+kindNumber K.Box = BOX
+kindNumber K.Array = ARRAY
+kindNumber K.Map = MAP
+kindNumber K.Struct = STRUCT
+kindNumber K.Function = FUNCTION
+kindNumber K.Iterator = ITERATOR
+kindNumber K.Coroutine = COROUTINE
 kindNumber K.Truth = 12
 kindNumber K.Float = 13
 kindNumber K.Character = 14

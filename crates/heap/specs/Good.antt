@@ -5,34 +5,40 @@ use mathlib.Core.Bool.{cond}
 use mathlib.Core.List.{List}
 use lib.Dec.{eqb}
 use lib.ListN.{getD, length}
-use Rattle.slots.specs.Header.{headerAt}
-use Rattle.slots.specs.FreeList.{Listed}
-use Rattle.slots.specs.declared.Scalars.{Scalars}
-use Rattle.cells.specs.Moves.{stringCells}
-use Rattle.cells.specs.Regions.{Raw, Laid, sizesOf, sumTo}
+use Rattle.heap_slots.specs.Header.{headerAt}
+use Rattle.heap_slots.specs.FreeList.{Listed}
+use Rattle.heap_slots.specs.Kinds.{COROUTINE, NONE}
+use Rattle.heap_slots.specs.Limits.{BOX-HALF, HALF, HALF-END, SLOT-WORDS, SLOTS-MAX}
+use Rattle.heap_slots.specs.Scalars.{coroutinePart, iteratorPart, mapPart}
+use Rattle.heap_slots.specs.declared.Scalars.{Scalars}
+use Rattle.heap_cells.specs.Moves.{stringCells}
+use Rattle.heap_cells.specs.Regions.{RawSlot, Laid, sizesOf, sumTo}
 use Rattle.layout.specs.Sections.{Tabled}
 use Rattle.map_store.specs.Map as Map
 use Rattle.model.specs.declared.Weights.{Weights}
-use Rattle.heap.specs.Kinds.{mapOf}
+use Rattle.heap.specs.Kinds.{LAST-ROW, byRow, mapOf}
 use Rattle.heap.specs.State.{State, rawOf, moreOf}
 
--- one slot: its region is as long as its kind's contents say (document 01's column "cells")
-pub record SlotGood (r : Raw) (x : Scalars) : Type 0 where
-  pub half-low : 65536 ≤ r .half
-  pub half-high : r .half < 131072
-  pub kind : r .kind ≤ 11
-  pub empty : r .kind ≡ 0 → (r .half < 98304) × (r .size ≡ 0)
-  pub string : r .kind ≡ 1 → r .size ≡ stringCells (r .len)
-  pub integer : r .kind ≡ 2 → r .size ≡ 0
-  pub cell : r .kind ≡ 3 → r .size ≡ 0
-  pub error : r .kind ≡ 4 → r .size ≡ 0
-  pub box : r .kind ≡ 5 → r .size ≡ 0
-  pub array : r .kind ≡ 6 → r .len ≤ r .size
-  pub map : r .kind ≡ 7 → Map.Good (mapOf r x) (r .cells) × (r .size ≡ r .value * 5 + r .mode / 2) × (x .g < 4294967296)
-  pub struct : r .kind ≡ 8 → r .len ≡ r .size
-  pub function : r .kind ≡ 9 → r .len ≡ r .size
-  pub iterator : r .kind ≡ 10 → (r .size ≡ 0) × (x .g < 4294967296)
-  pub coroutine : r .kind ≡ 11 → r .size ≡ r .len + 4 * x .f
+-- What a row asks of a slot: its region is as long as the kind's contents say (document 01's column "cells").
+abbrev pub Holds : ℕ → RawSlot → Scalars → Type 0
+Holds k r x = cond (eqb k NONE) ((r .half < BOX-HALF) × (r .size ≡ 0)) (byRow k
+    (r .size ≡ stringCells (r .len))
+    (r .size ≡ 0)
+    (r .size ≡ 0)
+    (r .size ≡ 0)
+    (r .size ≡ 0)
+    (r .len ≤ r .size)
+    (Map.Good (mapOf r x) (r .cells) × (r .size ≡ r .value * 5 + r .mode / 2) × (mapPart x .epoch < 4294967296))
+    (r .len ≡ r .size)
+    (r .len ≡ r .size)
+    ((r .size ≡ 0) × (iteratorPart x .epoch < 4294967296))
+    (r .size ≡ r .len + 4 * coroutinePart x .frames))
+
+pub record SlotGood (r : RawSlot) (x : Scalars) : Type 0 where
+  pub half-low : HALF ≤ r .half
+  pub half-high : r .half < HALF-END
+  pub kind : r .kind ≤ LAST-ROW
+  pub holds : Holds (r .kind) r x
 
 -- "weights are given at opening, 1 to 4,096"
 pub record WeightsGood (w : Weights) : Type 0 where
@@ -44,11 +50,11 @@ pub record WeightsGood (w : Weights) : Type 0 where
 
 -- 1 for a slot with an object
 abbrev pub filled : State → ℕ → ℕ
-filled t i = cond (eqb (headerAt (t .slots) i .kind) 0) 0 1
+filled t i = cond (eqb (headerAt (t .slots) i .kind) NONE) 0 1
 
 -- 1 for a coroutine's kind
 abbrev pub coroutineOf : ℕ → ℕ
-coroutineOf kind = cond (eqb kind 11) 1 0
+coroutineOf kind = cond (eqb kind COROUTINE) 1 0
 
 -- the coroutines in the first n slots
 abbrev pub coroutinesIn : List ℕ → ℕ → ℕ
@@ -56,9 +62,9 @@ coroutinesIn s n = sumTo (λ i. coroutineOf (headerAt s i .kind)) n
 
 pub record Good (t : State) : Type 0 where
   pub some-slot : 1 ≤ t .heap .size
-  pub slots-max : t .heap .size ≤ 65536
-  pub slots-fit : t .heap .size * 8 ≤ length (t .slots)
-  pub scalars-fit : t .heap .size * 8 ≤ length (t .scalars)
+  pub slots-max : t .heap .size ≤ SLOTS-MAX
+  pub slots-fit : t .heap .size * SLOT-WORDS ≤ length (t .slots)
+  pub scalars-fit : t .heap .size * SLOT-WORDS ≤ length (t .scalars)
   pub list-fit : t .heap .size ≤ length (t .list)
   pub directory-fit : t .heap .size * 2 ≤ length (t .directory)
   pub weights : WeightsGood (t .heap .weights)

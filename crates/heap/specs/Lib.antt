@@ -1,5 +1,6 @@
 pub mod Answers
 pub mod Kinds
+pub mod Record
 pub mod State
 pub mod Good
 pub mod Promise

@@ -4,10 +4,10 @@ use mathlib.Core.Path.{_≡_}
 use mathlib.Core.Bool.{Bool, true, false, cond}
 use mathlib.Core.List.{List}
 use lib.Dec.{eqb}
-use Rattle.slots.specs.Header.{headerAt}
-use Rattle.slots.specs.Lookup.{hitFirst}
-use Rattle.slots.specs.declared.Found.{Found}
-use Rattle.slots.specs.declared.Found.the-variants as F
+use Rattle.heap_slots.specs.Header.{headerAt}
+use Rattle.heap_slots.specs.Lookup.{hitFirst}
+use Rattle.heap_slots.specs.declared.FoundSlot.{FoundSlot}
+use Rattle.heap_slots.specs.declared.FoundSlot.the-variants as F
 use Rattle.heap.specs.declared.Located.{Located}
 use Rattle.heap.specs.declared.Located.the-variants.{At, Refused}
 use Rattle.heap.specs.declared.Refusal.the-variants.{ReachesNothing, OtherKind}
@@ -18,7 +18,7 @@ pick true a b = a
 pick false a b = b
 
 -- by what the word reaches: an object of the kind, or the refusal
-unfoldable pub locatedBy : List ℕ → ℕ → Found → Located
+unfoldable pub locatedBy : List ℕ → ℕ → FoundSlot → Located
 locatedBy s kind (F.At i) = pick (eqb (headerAt s i .kind) kind) (At i) (Refused OtherKind)
 locatedBy s kind F.Nothing = Refused ReachesNothing
 locatedBy s kind F.Wrong = Refused OtherKind
@@ -32,7 +32,7 @@ locatedNumber (At i) = 0
 locatedNumber (Refused q) = numberOf q
 
 -- "1 reaches nothing", "2 another kind, or a word neither nil nor reference"
-unfoldable pub targetNumber : List ℕ → ℕ → Found → ℕ
+unfoldable pub targetNumber : List ℕ → ℕ → FoundSlot → ℕ
 targetNumber s kind (F.At i) = cond (eqb (headerAt s i .kind) kind) 0 2
 targetNumber s kind F.Nothing = 1
 targetNumber s kind F.Wrong = 2
@@ -42,7 +42,7 @@ pub record Locates (s : List ℕ) (n w kind : ℕ) (r : Located) : Type 0 where
   pub number : locatedNumber r ≡ targetNumber s kind (hitFirst s n w)
 
 -- the row of the object that a word reaches, 0 for none
-unfoldable pub rowBy : List ℕ → Found → ℕ
+unfoldable pub rowBy : List ℕ → FoundSlot → ℕ
 rowBy s (F.At i) = headerAt s i .kind
 rowBy s F.Nothing = 0
 rowBy s F.Wrong = 0

@@ -7,7 +7,7 @@ use mathlib.Core.List.{List, _++_}
 use mathlib.Core.Option.{some}
 use lib.Dec.{leb}
 use lib.ListN.{drop, length, replicate}
-use Rattle.account.specs.Account.{newAccount}
+use Rattle.heap_slots.specs.Limits.{SLOT-WORDS}
 use Rattle.layout.specs.Sections.{Tabled, layoutOf, tableOf}
 use Rattle.model.specs.Opening.{Opening, between, open-heap}
 use Rattle.model.specs.Terms.{is-some}
@@ -18,6 +18,7 @@ use Rattle.heap.specs.declared.Opened.the-variants.{Ready, Refused}
 use Rattle.heap.specs.declared.Refusal.the-variants.{BadOpening}
 use Rattle.heap.specs.Answers.{numberOf}
 use Rattle.heap.specs.State.{State, modelOf}
+pub use Rattle.heap.specs.Record.{newHeap}
 use Rattle.heap.specs.Good.{Good, Rested}
 
 -- document 01's number of each case
@@ -36,23 +37,7 @@ weightsFit w = between 1 (w .slot) 4096 && (between 1 (w .entry) 4096 && (betwee
 -- eight words to a slot in slots and scalars, one in the free list, two in the directory; a mark and two places in the order
 unfoldable pub roomFor : ℕ → ℕ → ℕ → ℕ → ℕ → ℕ → ℕ → Bool
 roomFor size slots scalars list directory marks order =
-    leb (size * 8) slots && (leb (size * 8) scalars && (leb size list && (leb (size * 2) directory && (leb size marks && leb (size * 2) order))))
-
-abbrev pub newHeap : ℕ → ℕ → Weights → Heap
-newHeap size limit weights = record {
-  account = newAccount limit;
-  weights = weights;
-  size = size;
-  fresh = 0;
-  free = 0;
-  top = 0;
-  entries = 0;
-  taken = 0;
-  present = 0;
-  coroutines = 0;
-  collections = 0;
-  freed = 0;
-}
+    leb (size * SLOT-WORDS) slots && (leb (size * SLOT-WORDS) scalars && (leb size list && (leb (size * 2) directory && (leb size marks && leb (size * 2) order))))
 
 -- the first n places are 0, the others as they were
 abbrev pub cleared : List ℕ → ℕ → List ℕ

@@ -7,11 +7,13 @@ use mathlib.Core.Logic.{_≢_}
 use lib.Dec.{eqb, leb, ltb}
 use lib.ListN.{length, set, take, drop}
 use Rattle.account.specs.Account.{charged, fits}
-use Rattle.slots.specs.Header.{setHeader, withHalf, withRegion}
-use Rattle.slots.specs.FreeList.{Listed, takenHalf, takenSlot}
-use Rattle.slots.specs.declared.Header.{Header}
-use Rattle.slots.specs.declared.Scalars.{Scalars}
-use Rattle.cells.specs.Regions.{Raw}
+use Rattle.heap_slots.specs.Header.{setHeader, withHalf, withPlace, withRegion}
+use Rattle.heap_slots.specs.Kinds.{BOX, NONE}
+use Rattle.heap_slots.specs.Limits.{BOX-FLAG, CELLS-MAX, HALF, SLOT-WORDS, SLOTS-MAX, SPAN}
+use Rattle.heap_slots.specs.FreeList.{Listed, takenHalf, takenSlot}
+use Rattle.heap_slots.specs.declared.Header.{Header}
+use Rattle.heap_slots.specs.declared.Scalars.{Scalars}
+use Rattle.heap_cells.specs.Raw.{RawSlot, rawOf}
 use Rattle.layout.specs.Layout.{Layout}
 use Rattle.heap.specs.declared.Heap.{Heap}
 use Rattle.heap.specs.declared.Made.{Made}
@@ -20,7 +22,8 @@ use Rattle.heap.specs.declared.Reading.the-variants.{Is}
 use Rattle.heap.specs.declared.Done.{Done}
 use Rattle.heap.specs.declared.Done.the-variants.{Accepted, Refused}
 use Rattle.heap.specs.declared.Refusal.the-variants.{NoCells, NoSlot, OverBudget}
-use Rattle.heap.specs.State.{State, modelOf, moreOf, withRegions}
+use Rattle.heap.specs.Record.{withObjects, withRegions}
+use Rattle.heap.specs.State.{State, modelOf, moreOf, withPlaced}
 use Rattle.heap.specs.Good.{Good, SlotGood, coroutineOf}
 
 -- 5, 6, 7, in this order: a charge of `bytes`, and `size` more of the `total` cells
@@ -36,61 +39,38 @@ nextSlot t = takenSlot (t .list) (t .heap .fresh) (t .heap .free)
 
 -- "the flag for a box only"
 abbrev pub flagOf : ℕ → ℕ
-flagOf kind = cond (eqb kind 5) 32768 0
+flagOf kind = cond (eqb kind BOX) BOX-FLAG 0
 
 -- the upper half of the new object's reference, and the reference
 abbrev pub newHalf : State → ℕ → ℕ
 newHalf t kind = takenHalf (t .slots) (t .list) (t .heap .free) + flagOf kind
 
 abbrev pub newWord : State → ℕ → ℕ
-newWord t kind = newHalf t kind * 4294967296 + nextSlot t
+newWord t kind = newHalf t kind * SPAN + nextSlot t
 
 -- kind, value, mode, len and size are the caller's
 abbrev pub newHeader : State → Header → ℕ → ℕ → Header
-newHeader t h start entry = record { half = newHalf t (h .kind); kind = h .kind; value = h .value; mode = h .mode; len = h .len; size = h .size; start = start; entry = entry }
+newHeader t h start entry = withPlace h (newHalf t (h .kind)) start entry
 
 -- the slot that a header makes with these cells
-abbrev pub newRaw : ℕ → Header → List ℕ → Raw
-newRaw half h region = record { half = half; kind = h .kind; value = h .value; mode = h .mode; len = h .len; size = h .size; cells = region }
+abbrev pub newRaw : ℕ → Header → List ℕ → RawSlot
+newRaw half h region = rawOf (withHalf h half) region
 
 -- the record with one object more
 abbrev pub grownHeap : Heap → ℕ → ℕ → ℕ → ℕ → ℕ → Heap
-grownHeap h kind bytes size top entries = record {
-  account = charged (h .account) bytes;
-  weights = h .weights;
-  size = h .size;
-  fresh = cond (eqb (h .free) 0) (h .fresh + 1) (h .fresh);
-  free = h .free - 1;
-  top = top;
-  entries = entries;
-  taken = h .taken + size;
-  present = h .present + 1;
-  coroutines = h .coroutines + coroutineOf kind;
-  collections = h .collections;
-  freed = h .freed;
-}
+grownHeap h kind bytes size top entries =
+    withObjects h (charged (h .account) bytes) (cond (eqb (h .free) 0) (h .fresh + 1) (h .fresh)) (h .free - 1) top entries (h .taken + size) (h .present + 1) (h .coroutines + coroutineOf kind)
 
 -- an object without cells: size, start and entry are 0
 abbrev pub placedPlain : State → Header → ℕ → State
-placedPlain t h bytes = record {
-  heap = grownHeap (t .heap) (h .kind) bytes 0 (t .heap .top) (t .heap .entries);
-  slots = setHeader (t .slots) (nextSlot t) (newHeader t (withRegion h 0 0 0) 0 0);
-  scalars = t .scalars;
-  list = t .list;
-  directory = t .directory;
-  cells = t .cells;
-}
+placedPlain t h bytes =
+    withPlaced t (grownHeap (t .heap) (h .kind) bytes 0 (t .heap .top) (t .heap .entries)) (setHeader (t .slots) (nextSlot t) (newHeader t (withRegion h 0 0 0) 0 0)) (t .directory)
 
 -- an object whose region is the next at the top
 abbrev pub placedRegion : State → Header → ℕ → State
-placedRegion t h bytes = record {
-  heap = grownHeap (t .heap) (h .kind) bytes (h .size) (t .heap .top + h .size) (t .heap .entries + 1);
-  slots = setHeader (t .slots) (nextSlot t) (newHeader t h (t .heap .top) (t .heap .entries));
-  scalars = t .scalars;
-  list = t .list;
-  directory = set (t .directory) (t .heap .entries) (nextSlot t);
-  cells = t .cells;
-}
+placedRegion t h bytes =
+    withPlaced t (grownHeap (t .heap) (h .kind) bytes (h .size) (t .heap .top + h .size) (t .heap .entries + 1)) (setHeader (t .slots) (nextSlot t) (newHeader t h (t .heap .top) (t .heap .entries)))
+    (set (t .directory) (t .heap .entries) (nextSlot t))
 
 -- the cells that its region will have
 abbrev pub nextRegion : State → ℕ → List ℕ
@@ -98,8 +78,8 @@ nextRegion t size = take size (drop (t .heap .top) (t .cells))
 
 -- a header is an object's, with these cells and scalars: its slot is as `Good` has it, whatever the tag
 pub record Object (h : Header) (region : List ℕ) (x : Scalars) : Type 0 where
-  pub some-kind : h .kind ≢ 0
-  pub fit : SlotGood (newRaw 65536 h region) x
+  pub some-kind : h .kind ≢ NONE
+  pub fit : SlotGood (newRaw HALF h region) x
 
 -- with the scalars of the next slot, and no cells
 abbrev pub PlainObject : State → Header → Type 0
@@ -135,18 +115,18 @@ pub record Roomy (b a : State) (size : ℕ) : Type 0 where
 -- what placing a header in the next slot needs
 pub record Seatable (h : Heap) (s list : List ℕ) (bytes size : ℕ) : Type 0 where
   pub listed : Listed s list (h .fresh) (h .free)
-  pub slots-max : h .size ≤ 65536
-  pub slots-fit : h .size * 8 ≤ length s
+  pub slots-max : h .size ≤ SLOTS-MAX
+  pub slots-fit : h .size * SLOT-WORDS ≤ length s
   pub list-fit : h .free ≤ length list
   pub fresh : h .fresh ≤ h .size
   pub left : h .free ≡ 0 → h .fresh < h .size
-  pub present : h .present ≤ 65536
-  pub coroutines : h .coroutines ≤ 65536
-  pub cells-max : h .taken + size ≤ 1048576
+  pub present : h .present ≤ SLOTS-MAX
+  pub coroutines : h .coroutines ≤ SLOTS-MAX
+  pub cells-max : h .taken + size ≤ CELLS-MAX
   pub in-budget : fits (h .account) bytes ≡ true
 
 -- the header is placed, and the record has one object more; its region is the caller's care
 pub record Seats (h : Heap) (s list : List ℕ) (hd : Header) (bytes : ℕ) (r : Made) (s′ : List ℕ) : Type 0 where
   pub heap : r .heap ≡ grownHeap h (hd .kind) bytes (hd .size) (h .top) (h .entries)
   pub slots : s′ ≡ setHeader s (takenSlot list (h .fresh) (h .free)) (withHalf hd (takenHalf s list (h .free) + flagOf (hd .kind)))
-  pub answer : r .answer ≡ Is ((takenHalf s list (h .free) + flagOf (hd .kind)) * 4294967296 + takenSlot list (h .fresh) (h .free))
+  pub answer : r .answer ≡ Is ((takenHalf s list (h .free) + flagOf (hd .kind)) * SPAN + takenSlot list (h .fresh) (h .free))

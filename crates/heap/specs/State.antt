@@ -7,16 +7,17 @@ use lib.Dec.{leb, ltb}
 use lib.ListN.{length}
 use denote.Ref.{RefT}
 use denote.Triple.Both.{Both}
-use Rattle.slots.specs.Header.{scalarsAt}
-use Rattle.slots.specs.FreeList.{freeList}
-use Rattle.slots.specs.declared.Scalars.{Scalars}
-use Rattle.cells.specs.Regions.{Raw, rawAt}
-use Rattle.account.specs.declared.Account.{Account}
+use Rattle.heap_slots.specs.Header.{scalarsAt}
+use Rattle.heap_slots.specs.FreeList.{freeList}
+use Rattle.heap_slots.specs.Limits.{BOX-HALF, GENERATIONS}
+use Rattle.heap_slots.specs.declared.Scalars.{Scalars}
+use Rattle.heap_cells.specs.Regions.{RawSlot, rawAt}
 use Rattle.layout.specs.Layout.{Layout}
 use Rattle.model.specs.Slots.{Slot}
 use Rattle.model.specs.Model.{Model}
 use Rattle.heap.specs.declared.Heap.{Heap}
 use Rattle.heap.specs.Kinds.{objectOf}
+pub use Rattle.heap.specs.Record.{withRegions}
 
 -- slots: headers; scalars: the words of maps, iterators and coroutines; list: the free list; directory: the regions' owners
 pub record State : Type 0 where
@@ -48,15 +49,15 @@ before h s x f d c = lent h (s .entry) (x .entry) (f .entry) (d .entry) (c .entr
 abbrev pub after : Heap → Pair → Pair → Pair → Pair → Pair → State
 after h s x f d c = lent h (s .exit) (x .exit) (f .exit) (d .exit) (c .exit)
 
-abbrev pub rawOf : State → ℕ → Raw
+abbrev pub rawOf : State → ℕ → RawSlot
 rawOf t i = rawAt (t .slots) (t .cells) i
 
 abbrev pub moreOf : State → ℕ → Scalars
 moreOf t i = scalarsAt (t .scalars) i
 
--- a reference's upper half is 65536 + tag; the tag is the box flag 0x8000 plus a 15-bit generation
-unfoldable pub slotFrom : Raw → Scalars → Slot
-slotFrom r x = record { gen = r .half % 32768; boxed = leb 98304 (r .half); object = objectOf r x }
+-- a reference's upper half is HALF + tag; the tag is the box flag plus a 15-bit generation
+unfoldable pub slotFrom : RawSlot → Scalars → Slot
+slotFrom r x = record { gen = r .half % GENERATIONS; boxed = leb BOX-HALF (r .half); object = objectOf r x }
 
 abbrev pub unused : Slot
 unused = record { gen = 0; boxed = false; object = none }
@@ -88,19 +89,14 @@ withScalars t x = record { heap = t .heap; slots = t .slots; scalars = x; list =
 abbrev pub withCells : State → List ℕ → State
 withCells t c = record { heap = t .heap; slots = t .slots; scalars = t .scalars; list = t .list; directory = t .directory; cells = c }
 
--- the record with another account, and regions at other places
-abbrev pub withRegions : Heap → Account → ℕ → ℕ → ℕ → Heap
-withRegions h account top entries taken = record {
-  account = account;
-  weights = h .weights;
-  size = h .size;
-  fresh = h .fresh;
-  free = h .free;
-  top = top;
-  entries = entries;
-  taken = taken;
-  present = h .present;
-  coroutines = h .coroutines;
-  collections = h .collections;
-  freed = h .freed;
-}
+-- one more object: the record, the headers and the directory
+abbrev pub withPlaced : State → Heap → List ℕ → List ℕ → State
+withPlaced t h s d = record { heap = h; slots = s; scalars = t .scalars; list = t .list; directory = d; cells = t .cells }
+
+-- regions moved: all but scalars and free list
+abbrev pub withMoved : State → Heap → List ℕ → List ℕ → List ℕ → State
+withMoved t h s d c = record { heap = h; slots = s; scalars = t .scalars; list = t .list; directory = d; cells = c }
+
+-- objects freed: all but the regions
+abbrev pub withFreed : State → Heap → List ℕ → List ℕ → List ℕ → State
+withFreed t h s x f = record { heap = h; slots = s; scalars = x; list = f; directory = t .directory; cells = t .cells }

@@ -8,9 +8,11 @@ ghost use mathlib.Core.Path.{_≡_};
 ghost use mathlib.Core.List.{[]};
 ghost use Prim.Native.Nat.{_≤_};
 ghost use lib.ListN.{length};
+ghost use Rattle.heap_slots.specs.Limits.{SLOTS-MAX};
 ghost use Rattle.model.specs.Calls as Calls;
 ghost use Rattle.model.specs.Replies.{nothing, number, truth};
 ghost use Rattle.heap.specs.Answers.{answered, doneIs, kindNumber, numberOf};
+ghost use Rattle.heap.specs.Kinds.{LAST-ROW};
 ghost use Rattle.heap.specs.State.{before, lent};
 ghost use Rattle.heap.specs.Good.{Good};
 ghost use Rattle.model.specs.Opening.{between, sizesFit};
@@ -18,12 +20,11 @@ ghost use Rattle.heap.specs.Opens.{Opens, beside, newHeap, openingOf, ro
 ghost use Rattle.heap.specs.Promise.{Performs, Reads};
 use account::Account;
 use account::Charged;
+use heap_slots::kinds;
+use heap_slots::limits;
 use layout::Checked;
 use model::Weights;
 use words::Raw;
-
-// The row of a box in the table of kinds.
-const BOX: u64 = 5;
 
 // size: slots; fresh: slots ever used; free: length of the free list; top: regions of the cells lie
 // below it; entries: length of the directory; taken: cells in use; present: objects present;
@@ -171,10 +172,10 @@ pub fn deref(
     if !words::is_box(w) {
         return w;
     }
-    match lookup::locate(slots, heap.fresh, w, BOX) {
+    match lookup::locate(slots, heap.fresh, w, kinds::BOX) {
         Located::Refused(q) => words::NIL,
         Located::At(i) => {
-            let h = slots::read_header(slots, i);
+            let h = heap_slots::read_header(slots, i);
             h.value
         }
     }
@@ -182,21 +183,21 @@ pub fn deref(
 
 // The kind of an object's row; 0 stands for no object.
 fn kind_at(row: u64) -> Kind
-    requires { ⌜ row ≤ 11 ⌝ }
+    requires { ⌜ row ≤ LAST-ROW ⌝ }
     ensures { λ r. ⌜ kindNumber r ≡ row ⌝ }
 {
     match row {
-        1 => Kind::String,
-        2 => Kind::Integer,
-        3 => Kind::Cell,
-        4 => Kind::Error,
-        5 => Kind::Box,
-        6 => Kind::Array,
-        7 => Kind::Map,
-        8 => Kind::Struct,
-        9 => Kind::Function,
-        10 => Kind::Iterator,
-        11 => Kind::Coroutine,
+        kinds::STRING => Kind::String,
+        kinds::INTEGER => Kind::Integer,
+        kinds::CELL => Kind::Cell,
+        kinds::ERROR => Kind::Error,
+        kinds::BOX => Kind::Box,
+        kinds::ARRAY => Kind::Array,
+        kinds::MAP => Kind::Map,
+        kinds::STRUCT => Kind::Struct,
+        kinds::FUNCTION => Kind::Function,
+        kinds::ITERATOR => Kind::Iterator,
+        kinds::COROUTINE => Kind::Coroutine,
         _ => Kind::Nil,
     }
 }
@@ -398,10 +399,10 @@ fn sizes_fit(size: u64, cells: usize, weights: Weights) -> bool
     if size < 1 {
         return false;
     }
-    if 65536 < size {
+    if limits::SLOTS_MAX < size {
         return false;
     }
-    if 1048576 < cells {
+    if limits::CELLS_MAX < cells {
         return false;
     }
     weights_fit(weights)
@@ -417,14 +418,14 @@ fn has_room(
     marks: usize,
     order: usize,
 ) -> bool
-    requires { ⌜ size ≤ 65536 ⌝ }
+    requires { ⌜ size ≤ SLOTS-MAX ⌝ }
     ensures { λ r. ⌜ r ≡ roomFor size slots scalars list directory marks order ⌝ }
 {
     let n = size as usize;
-    if slots < n * 8 {
+    if slots < n * limits::SLOT_WORDS {
         return false;
     }
-    if scalars < n * 8 {
+    if scalars < n * limits::SLOT_WORDS {
         return false;
     }
     if list < n {

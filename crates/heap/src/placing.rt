@@ -2,22 +2,22 @@
 ghost use mathlib.Core.Path.{_≡_};
 ghost use Prim.Native.Nat.{_+_, _*_, _≤_, _<_};
 ghost use lib.ListN.{length};
-ghost use Rattle.slots.specs.FreeList.{takenSlot};
+ghost use Rattle.heap_slots.specs.FreeList.{takenSlot};
 ghost use Rattle.heap.specs.declared.Done.the-variants.{Accepted};
 ghost use Rattle.heap.specs.State.{after, before, lent};
 ghost use Rattle.heap.specs.Good.{Good, coroutineOf};
 ghost use Rattle.heap.specs.Placing.{PlacesPlain, PlacesRegion, PlainObject, RegionObject, Roomy, Seatable, Seats, flagOf, judgedNew};
-use crate::BOX;
 use crate::Done;
 use crate::Heap;
 use crate::Made;
 use crate::Reading;
 use crate::Refusal;
 use account::Charged;
-use cells::Top;
-use slots::Header;
-
-const COROUTINE: u64 = 11;
+use heap_cells::Top;
+use heap_slots::Header;
+use heap_slots::kinds::BOX;
+use heap_slots::kinds::COROUTINE;
+use heap_slots::limits;
 
 // 5, 6, 7, in this order: a charge of `bytes`, and `size` more of the `total` cells.
 pub fn judge_new(heap: Heap, total: u64, bytes: u64, size: u64) -> Done
@@ -57,7 +57,7 @@ pub fn next_slot(list: &[u64], fresh: u64, free: u64) -> u64
 fn flag_of(kind: u64) -> u64
     ensures { λ r. ⌜ r ≡ flagOf kind ⌝ }
 {
-    if kind == BOX { 32768 } else { 0 }
+    if kind == BOX { limits::BOX_FLAG } else { 0 }
 }
 
 // 1 for a coroutine.
@@ -79,10 +79,10 @@ fn seat(heap: Heap, slots: &mut [u64], list: &[u64], header: Header, bytes: u64)
             answer: Reading::Refused(Refusal::OverBudget),
         };
     };
-    let t = slots::take_slot(slots, list, heap.fresh, heap.free, flag_of(header.kind));
+    let t = heap_slots::take_slot(slots, list, heap.fresh, heap.free, flag_of(header.kind));
     let mut new = header;
     new.half = t.half;
-    slots::write_header(slots, t.slot as usize, new);
+    heap_slots::write_header(slots, t.slot as usize, new);
     let mut h = heap;
     h.account = next;
     h.fresh = t.fresh;
@@ -92,7 +92,7 @@ fn seat(heap: Heap, slots: &mut [u64], list: &[u64], header: Header, bytes: u64)
     h.coroutines = heap.coroutines + coroutine_of(header.kind);
     Made {
         heap: h,
-        answer: Reading::Is(t.half * 4294967296 + t.slot),
+        answer: Reading::Is(t.half * limits::SPAN + t.slot),
     }
 }
 
@@ -162,7 +162,7 @@ pub fn make_room(
         cells: heap.top,
         entries: heap.entries,
     };
-    let t = cells::reserve(
+    let t = heap_cells::reserve(
         slots,
         heap.fresh,
         directory,

@@ -12,7 +12,7 @@ use Rattle.model.specs.Demand3.{run}
 use Rattle.model.specs.Model.{Model}
 use Rattle.model.specs.Step.{step}
 use Rattle.history.proofs.Lift.{Seen, seen, seenAll}
-use Rattle.commands.specs.Shows.{answerShown, orZero, replyShown, shownOf, withLent}
+use Rattle.answers.specs.Shows.{answerShown, orZero, replyShown, shownOf, withLent}
 use Rattle.heap.specs.Answers.{madeIs, readingIs}
 use Rattle.heap.specs.State.{State, modelOf, withHeap}
 use Rattle.heap.specs.Good.{Good, Rested}
@@ -21,9 +21,9 @@ use Rattle.heap.specs.Promise.{Performs, Does}
 use Rattle.heap.specs.declared.Heap.{Heap}
 use Rattle.heap.specs.declared.Reading.{Reading}
 use Rattle.heap.specs.declared.Reading.the-variants as Read
-use Rattle.collections.specs.Answers.{perhapsIs}
-use Rattle.collections.specs.declared.Perhaps.{Perhaps}
-use Rattle.collections.specs.declared.Perhaps.the-variants as P
+use Rattle.collections_growth.specs.Answers.{perhapsIs}
+use Rattle.collections_growth.specs.declared.Perhaps.{Perhaps}
+use Rattle.collections_growth.specs.declared.Perhaps.the-variants as P
 use Rattle.heap.specs.declared.Opened.the-variants.{Refused}
 use Rattle.collector.specs.Answer.{collectionIs}
 use Rattle.collector.specs.declared.Collection.{Collection}

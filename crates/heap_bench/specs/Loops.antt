@@ -12,13 +12,13 @@ use Rattle.model.specs.Model.{Model}
 use Rattle.model.specs.Replies.{list}
 use Rattle.model.specs.Step.{step}
 use Rattle.history.proofs.Lift.{Seen, seen, seenAll}
-use Rattle.commands.specs.Shows.{shownOf}
+use Rattle.answers.specs.Shows.{shownOf}
 use Rattle.heap.specs.State.{State, modelOf}
 use Rattle.heap.specs.Good.{Good}
 use Rattle.heap.specs.declared.Reading.{Reading}
 use Rattle.heap.specs.declared.Reading.the-variants as Read
-use Rattle.collections.specs.declared.Perhaps.{Perhaps}
-use Rattle.collections.specs.declared.Perhaps.the-variants as P
+use Rattle.collections_growth.specs.declared.Perhaps.{Perhaps}
+use Rattle.collections_growth.specs.declared.Perhaps.the-variants as P
 use Rattle.collector.specs.declared.Collection.{Collection}
 use Rattle.collector.specs.declared.Collection.the-variants as C
 

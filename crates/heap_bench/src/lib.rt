@@ -1,5 +1,5 @@
 // The calls in loops, for bench/run: a Rust or C caller keeps the heap's record in nineteen words between the loops.
-use collections::Perhaps;
+use collections_growth::Perhaps;
 use collector::Collection;
 use heap::Heap;
 use heap::Reading;
@@ -10,7 +10,7 @@ ghost use Rattle.model.specs.Calls as Calls;
 ghost use Rattle.heap.specs.State.{after, before, lent, state};
 ghost use Rattle.heap.specs.Good.{Good, Rested};
 ghost use Rattle.heap.specs.Opens.{beside, newHeap, openingOf};
-ghost use Rattle.record.specs.Record.{OpensWords, loaded, weightsIn};
+ghost use Rattle.heap_record.specs.Record.{OpensWords, loaded, weightsIn};
 ghost use Rattle.heap_bench.specs.Loops.{Collects, Filled, Ran, Summed, arrays, boxReads, boxStores, boxes, finds, freedWord, itemReads, itemStores, iterators, maps, pops, pushes, puts, readWord, removals, steps, visitWord};
 
 // The word read or made; 0 for a refusal.
@@ -58,12 +58,12 @@ pub extern "C" fn heap_bench_read_box(
     requires { ⌜ Good (lent (loaded (now heap)) slots scalars list directory cells) ⌝ }
     ensures { λ r. ⌜ Summed (boxReads (now (words .entry))) (length (now (words .entry))) (before (loaded (now (heap .entry))) slots scalars list directory cells) r ⌝ }
 {
-    let h = record::load(heap);
+    let h = heap_record::load(heap);
     let mut i: usize = 0;
     let mut sum: u64 = 0;
     while i < words.len() {
         let w = words[i];
-        let r = access::read_box(h, slots, scalars, list, directory, cells, w);
+        let r = heap_access::readings::read_box(h, slots, scalars, list, directory, cells, w);
         sum = std::num::wrapping_add_u64(sum, word(r));
         i += 1;
     }
@@ -86,12 +86,12 @@ pub extern "C" fn heap_bench_store_box(
     requires { ⌜ length (now values) ≡ length (now words) ⌝ }
     ensures { λ _. ⌜ Ran (boxStores (now (words .entry)) (now (values .entry))) (length (now (words .entry))) (before (loaded (now (heap .entry))) slots scalars list directory cells) (after (loaded (now (heap .entry))) slots scalars list directory cells) ⌝ }
 {
-    let h = record::load(heap);
+    let h = heap_record::load(heap);
     let mut i: usize = 0;
     while i < words.len() {
         let w = words[i];
         let v = values[i];
-        let _ = access::store_box(h, slots, scalars, list, directory, cells, w, v);
+        let _ = heap_access::stores::store_box(h, slots, scalars, list, directory, cells, w, v);
         i += 1;
     }
 }
@@ -112,13 +112,13 @@ pub extern "C" fn heap_bench_read_item(
     requires { ⌜ length (now positions) ≡ length (now words) ⌝ }
     ensures { λ r. ⌜ Summed (itemReads (now (words .entry)) (now (positions .entry))) (length (now (words .entry))) (before (loaded (now (heap .entry))) slots scalars list directory cells) r ⌝ }
 {
-    let h = record::load(heap);
+    let h = heap_record::load(heap);
     let mut i: usize = 0;
     let mut sum: u64 = 0;
     while i < words.len() {
         let w = words[i];
         let p = positions[i];
-        let r = access::read_item(h, slots, scalars, list, directory, cells, w, p);
+        let r = heap_access::readings::read_item(h, slots, scalars, list, directory, cells, w, p);
         sum = std::num::wrapping_add_u64(sum, word(r));
         i += 1;
     }
@@ -142,12 +142,12 @@ pub extern "C" fn heap_bench_store_item(
     requires { ⌜ length (now positions) ≡ length (now words) ⌝ }
     ensures { λ _. ⌜ Ran (itemStores (now (words .entry)) (now (positions .entry)) v) (length (now (words .entry))) (before (loaded (now (heap .entry))) slots scalars list directory cells) (after (loaded (now (heap .entry))) slots scalars list directory cells) ⌝ }
 {
-    let h = record::load(heap);
+    let h = heap_record::load(heap);
     let mut i: usize = 0;
     while i < words.len() {
         let w = words[i];
         let p = positions[i];
-        let _ = access::store_item(h, slots, scalars, list, directory, cells, w, p, v);
+        let _ = heap_access::stores::store_item(h, slots, scalars, list, directory, cells, w, p, v);
         i += 1;
     }
 }
@@ -168,16 +168,16 @@ pub extern "C" fn heap_bench_new_box(
     ensures { λ _. ⌜ Ran (boxes w) (length (now (out .entry))) (before (loaded (now (heap .entry))) slots scalars list directory cells) (after (loaded (now (heap .exit))) slots scalars list directory cells) ⌝ }
     ensures { λ _. ⌜ Filled (boxes w) (before (loaded (now (heap .entry))) slots scalars list directory cells) (now (out .exit)) ⌝ }
 {
-    let mut h = record::load(heap);
+    let mut h = heap_record::load(heap);
     let mut i: usize = 0;
     while i < out.len() {
-        let r = allocation::new_box(h, slots, scalars, list, directory, cells, w);
+        let r = heap_allocation::new_box(h, slots, scalars, list, directory, cells, w);
         let answer = r.answer;
         out[i] = word(answer);
         h = r.heap;
         i += 1;
     }
-    record::save(heap, h);
+    heap_record::save(heap, h);
 }
 
 // Arrays of so many items, one for each place.
@@ -197,16 +197,16 @@ pub extern "C" fn heap_bench_new_array(
     ensures { λ _. ⌜ Ran (arrays t size) (length (now (out .entry))) (before (loaded (now (heap .entry))) slots scalars list directory cells) (after (loaded (now (heap .exit))) slots scalars list directory cells) ⌝ }
     ensures { λ _. ⌜ Filled (arrays t size) (before (loaded (now (heap .entry))) slots scalars list directory cells) (now (out .exit)) ⌝ }
 {
-    let mut h = record::load(heap);
+    let mut h = heap_record::load(heap);
     let mut i: usize = 0;
     while i < out.len() {
-        let r = allocation::new_array(h, slots, scalars, list, directory, cells, t, size);
+        let r = heap_allocation::new_array(h, slots, scalars, list, directory, cells, t, size);
         let answer = r.answer;
         out[i] = word(answer);
         h = r.heap;
         i += 1;
     }
-    record::save(heap, h);
+    heap_record::save(heap, h);
 }
 
 // Maps of plain words, one for each place.
@@ -224,16 +224,16 @@ pub extern "C" fn heap_bench_new_map(
     ensures { λ _. ⌜ Ran (maps) (length (now (out .entry))) (before (loaded (now (heap .entry))) slots scalars list directory cells) (after (loaded (now (heap .exit))) slots scalars list directory cells) ⌝ }
     ensures { λ _. ⌜ Filled (maps) (before (loaded (now (heap .entry))) slots scalars list directory cells) (now (out .exit)) ⌝ }
 {
-    let mut h = record::load(heap);
+    let mut h = heap_record::load(heap);
     let mut i: usize = 0;
     while i < out.len() {
-        let r = collections::new_map(h, slots, scalars, list, directory, cells, 0, 0);
+        let r = collections_maps::changes::new_map(h, slots, scalars, list, directory, cells, 0, 0);
         let answer = r.answer;
         out[i] = word(answer);
         h = r.heap;
         i += 1;
     }
-    record::save(heap, h);
+    heap_record::save(heap, h);
 }
 
 // Iterators over one source, one for each place.
@@ -252,16 +252,16 @@ pub extern "C" fn heap_bench_new_iter(
     ensures { λ _. ⌜ Ran (iterators source) (length (now (out .entry))) (before (loaded (now (heap .entry))) slots scalars list directory cells) (after (loaded (now (heap .exit))) slots scalars list directory cells) ⌝ }
     ensures { λ _. ⌜ Filled (iterators source) (before (loaded (now (heap .entry))) slots scalars list directory cells) (now (out .exit)) ⌝ }
 {
-    let mut h = record::load(heap);
+    let mut h = heap_record::load(heap);
     let mut i: usize = 0;
     while i < out.len() {
-        let r = collections::new_iter(h, slots, scalars, list, directory, cells, source);
+        let r = collections_iterators::new_iter(h, slots, scalars, list, directory, cells, source);
         let answer = r.answer;
         out[i] = word(answer);
         h = r.heap;
         i += 1;
     }
-    record::save(heap, h);
+    heap_record::save(heap, h);
 }
 
 // The values behind an array's last item.
@@ -279,15 +279,15 @@ pub extern "C" fn heap_bench_push(
     requires { ⌜ Good (lent (loaded (now heap)) slots scalars list directory cells) ⌝ }
     ensures { λ _. ⌜ Ran (pushes w (now (values .entry))) (length (now (values .entry))) (before (loaded (now (heap .entry))) slots scalars list directory cells) (after (loaded (now (heap .exit))) slots scalars list directory cells) ⌝ }
 {
-    let mut h = record::load(heap);
+    let mut h = heap_record::load(heap);
     let mut i: usize = 0;
     while i < values.len() {
         let v = values[i];
-        let r = collections::push(h, slots, scalars, list, directory, cells, w, v);
+        let r = collections_arrays::push(h, slots, scalars, list, directory, cells, w, v);
         h = r.heap;
         i += 1;
     }
-    record::save(heap, h);
+    heap_record::save(heap, h);
 }
 
 // An array's last items, n of them: their sum, modulo 2^64.
@@ -306,11 +306,11 @@ pub extern "C" fn heap_bench_pop(
     ensures { λ _. ⌜ Ran (pops w) n (before (loaded (now (heap .entry))) slots scalars list directory cells) (after (loaded (now (heap .entry))) slots scalars list directory cells) ⌝ }
     ensures { λ r. ⌜ Summed (pops w) n (before (loaded (now (heap .entry))) slots scalars list directory cells) r ⌝ }
 {
-    let h = record::load(heap);
+    let h = heap_record::load(heap);
     let mut i: usize = 0;
     let mut sum: u64 = 0;
     while i < n {
-        let r = collections::pop(h, slots, scalars, list, directory, cells, w);
+        let r = collections_arrays::pop(h, slots, scalars, list, directory, cells, w);
         sum = std::num::wrapping_add_u64(sum, word(r));
         i += 1;
     }
@@ -334,16 +334,27 @@ pub extern "C" fn heap_bench_put(
     requires { ⌜ length (now hashes) ≡ length (now keys) ⌝ }
     ensures { λ _. ⌜ Ran (puts w (now (hashes .entry)) (now (keys .entry))) (length (now (keys .entry))) (before (loaded (now (heap .entry))) slots scalars list directory cells) (after (loaded (now (heap .exit))) slots scalars list directory cells) ⌝ }
 {
-    let mut h = record::load(heap);
+    let mut h = heap_record::load(heap);
     let mut i: usize = 0;
     while i < keys.len() {
         let hash = hashes[i];
         let key = keys[i];
-        let r = collections::put(h, slots, scalars, list, directory, cells, w, hash, key, key);
+        let r = collections_maps::changes::put(
+            h,
+            slots,
+            scalars,
+            list,
+            directory,
+            cells,
+            w,
+            hash,
+            key,
+            key,
+        );
         h = r.heap;
         i += 1;
     }
-    record::save(heap, h);
+    heap_record::save(heap, h);
 }
 
 // Keys of a map: the sum of their positions, modulo 2^64.
@@ -363,13 +374,23 @@ pub extern "C" fn heap_bench_find(
     requires { ⌜ length (now hashes) ≡ length (now keys) ⌝ }
     ensures { λ r. ⌜ Summed (finds w (now (hashes .entry)) (now (keys .entry))) (length (now (keys .entry))) (before (loaded (now (heap .entry))) slots scalars list directory cells) r ⌝ }
 {
-    let h = record::load(heap);
+    let h = heap_record::load(heap);
     let mut i: usize = 0;
     let mut sum: u64 = 0;
     while i < keys.len() {
         let hash = hashes[i];
         let key = keys[i];
-        let r = collections::find(h, slots, scalars, list, directory, cells, w, hash, key);
+        let r = collections_maps::readings::find(
+            h,
+            slots,
+            scalars,
+            list,
+            directory,
+            cells,
+            w,
+            hash,
+            key,
+        );
         sum = std::num::wrapping_add_u64(sum, visited(r));
         i += 1;
     }
@@ -393,16 +414,26 @@ pub extern "C" fn heap_bench_remove(
     requires { ⌜ length (now hashes) ≡ length (now keys) ⌝ }
     ensures { λ _. ⌜ Ran (removals w (now (hashes .entry)) (now (keys .entry))) (length (now (keys .entry))) (before (loaded (now (heap .entry))) slots scalars list directory cells) (after (loaded (now (heap .exit))) slots scalars list directory cells) ⌝ }
 {
-    let mut h = record::load(heap);
+    let mut h = heap_record::load(heap);
     let mut i: usize = 0;
     while i < keys.len() {
         let hash = hashes[i];
         let key = keys[i];
-        let r = collections::remove(h, slots, scalars, list, directory, cells, w, hash, key);
+        let r = collections_maps::changes::remove(
+            h,
+            slots,
+            scalars,
+            list,
+            directory,
+            cells,
+            w,
+            hash,
+            key,
+        );
         h = r.heap;
         i += 1;
     }
-    record::save(heap, h);
+    heap_record::save(heap, h);
 }
 
 // An iterator's next items, n of them: their sum, modulo 2^64.
@@ -421,11 +452,11 @@ pub extern "C" fn heap_bench_iter_next(
     ensures { λ _. ⌜ Ran (steps w) n (before (loaded (now (heap .entry))) slots scalars list directory cells) (after (loaded (now (heap .entry))) slots scalars list directory cells) ⌝ }
     ensures { λ r. ⌜ Summed (steps w) n (before (loaded (now (heap .entry))) slots scalars list directory cells) r ⌝ }
 {
-    let h = record::load(heap);
+    let h = heap_record::load(heap);
     let mut i: usize = 0;
     let mut sum: u64 = 0;
     while i < n {
-        let r = collections::iter_next(h, slots, scalars, list, directory, cells, w);
+        let r = collections_iterators::iter_next(h, slots, scalars, list, directory, cells, w);
         sum = std::num::wrapping_add_u64(sum, visited(r));
         i += 1;
     }
@@ -455,7 +486,7 @@ pub extern "C" fn heap_bench_collect(
     ensures { λ _. ⌜ now (marks .exit) ≡ now (marks .entry) ⌝ }
     ensures { λ _. ⌜ now (order .exit) ≡ now (order .entry) ⌝ }
 {
-    let h = record::load(heap);
+    let h = heap_record::load(heap);
     let r = collector::collect(
         h,
         slots,
@@ -471,7 +502,7 @@ pub extern "C" fn heap_bench_collect(
         places,
     );
     let after = r.heap;
-    record::save(heap, after);
+    heap_record::save(heap, after);
     let answer = r.answer;
     freed(answer)
 }
@@ -495,7 +526,7 @@ pub extern "C" fn heap_bench_open(
 ) -> u64
     ensures { λ r. ⌜ OpensWords (openingOf size (length (now (cells .entry))) limit (weightsIn (now (weights .entry))) (now (layout .entry))) (state (newHeap size limit (weightsIn (now (weights .entry)))) (now (slots .entry)) (now (scalars .entry)) (now (list .entry)) (now (directory .entry)) (now (cells .entry))) (beside (now (table .entry)) (now (marks .entry)) (now (order .entry))) (now (heap .entry)) r (now (heap .exit)) (beside (now (table .exit)) (now (marks .exit)) (now (order .exit))) ⌝ }
 {
-    record::open(
+    heap_record::open(
         heap,
         size,
         limit,

@@ -8,17 +8,17 @@ ghost use Rattle.heap.specs.Answers.{madeIs};
 ghost use Rattle.heap.specs.State.{after, before, lent};
 ghost use Rattle.heap.specs.Good.{Good};
 ghost use Rattle.heap.specs.Promise.{Performs, Reads};
-ghost use Rattle.allocation.specs.Coroutines.{callOf};
-ghost use Rattle.collections.specs.Answers.{lentSeen};
-use access::FrameRead;
-use allocation::Coroutine;
-use collections::Perhaps;
+ghost use Rattle.heap_allocation.specs.Coroutines.{callOf};
+ghost use Rattle.collections_maps.specs.Answers.{lentSeen};
+use collections_growth::Perhaps;
 use heap::Done;
 use heap::Heap;
 use heap::Made;
 use heap::Opened;
 use heap::Reading;
 use heap::Refusal;
+use heap_access::FrameRead;
+use heap_allocation::Coroutine;
 use libc::STDOUT_FILENO;
 use map_store::Cursor;
 use map_store::Last;
@@ -47,7 +47,7 @@ fn made_from(
     requires { ⌜ Good (lent heap slots scalars list directory cells) ⌝ }
     ensures { λ r. ⌜ Performs (callOf k (now (registers .entry)) frames) (before heap slots scalars list directory cells) (madeIs (r .answer)) (after (r .heap) slots scalars list directory cells) ⌝ }
 {
-    allocation::new_coroutine(
+    heap_allocation::new_coroutine(
         heap,
         slots,
         scalars,
@@ -74,7 +74,16 @@ fn next_from(
     ensures { λ r. ⌜ Reads (Calls.next w (cursorIs c)) (before heap slots scalars list directory cells) (lentSeen (cursorIs (r .cursor)) (r .answer)) ⌝ }
 {
     let mut cursor = c;
-    let answer = collections::next(heap, slots, scalars, list, directory, cells, w, &mut cursor);
+    let answer = collections_maps::next(
+        heap,
+        slots,
+        scalars,
+        list,
+        directory,
+        cells,
+        w,
+        &mut cursor,
+    );
     Moved { cursor, answer }
 }
 
@@ -105,7 +114,7 @@ fn print_frame(
 )
     requires { ⌜ Good (lent heap slots scalars list directory cells) ⌝ }
 {
-    match access::read_frame(heap, slots, scalars, list, directory, cells, w, i) {
+    match heap_access::readings::read_frame(heap, slots, scalars, list, directory, cells, w, i) {
         FrameRead::Refused(q) => print_refusal(q),
         FrameRead::Is(f) => {
             io::write_all(STDOUT_FILENO, b"frame");
@@ -228,7 +237,7 @@ fn put(
     requires { ⌜ Good (lent heap slots scalars list directory cells) ⌝ }
     ensures { λ r. ⌜ Good (after r slots scalars list directory cells) ⌝ }
 {
-    let s = collections::put(
+    let s = collections_maps::changes::put(
         heap,
         slots,
         scalars,
@@ -338,7 +347,7 @@ fn map(
 )
     requires { ⌜ Good (lent heap slots scalars list directory cells) ⌝ }
 {
-    let m = collections::new_map(heap, slots, scalars, list, directory, cells, 0, 0);
+    let m = collections_maps::changes::new_map(heap, slots, scalars, list, directory, cells, 0, 0);
     let h = m.heap;
     let answer = m.answer;
     match answer {

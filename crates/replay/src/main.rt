@@ -1,13 +1,13 @@
 // Reads a script from standard input, up to 1 MiB (what is longer is cut), and prints a line for
-// each command, before the next is read.
+// each command.
 ghost use mathlib.Core.Path.{_≡_};
-ghost use Prim.Native.Nat.{_*_, _≤_};
+ghost use Prim.Native.Nat.{_≤_};
 ghost use lib.ListN.{length};
-ghost use Rattle.replaying.specs.Turns.{SessionReady};
+ghost use Rattle.script.specs.Turns.{SessionReady, lend};
 use libc::STDIN_FILENO;
 use libc::STDOUT_FILENO;
-use replaying::Session;
-use replaying::Started;
+use script::Session;
+use script::Started;
 
 // Zeros. The `ensures` gives only the length, which lending needs.
 fn script_buffer() -> [u8; 1048577]
@@ -33,19 +33,17 @@ fn play(
     order: &mut [u32],
     table: &mut [u64],
     roots: &mut [u64],
-    input: &[u8],
     words: &mut [u64],
     bytes: &mut [u8],
     places: &mut [u64],
     out: &mut [u8],
+    input: &[u8],
 )
-    requires { ⌜ SessionReady (now input) (now slots) (now scalars) (now list) (now directory) (now cells) (now marks) (now order) (now table) first ⌝ }
-    requires { ⌜ (length (now input) ≤ 8 * length (now words)) × (64 ≤ length (now roots)) × (65536 ≤ length (now cells)) ⌝ }
-    requires { ⌜ (length (now places) ≡ 65536) × (524288 ≤ length (now bytes)) × (length (now input) ≤ length (now bytes)) × (1114279 ≤ length (now out)) ⌝ }
+    requires { ⌜ SessionReady (now input) (lend slots scalars list directory cells marks order table roots words bytes places out) first ⌝ }
 {
     let mut p = first;
     while p.at < input.len() {
-        p = replaying::turn(
+        p = script::run(
             p,
             slots,
             scalars,
@@ -56,20 +54,18 @@ fn play(
             order,
             table,
             roots,
-            input,
             words,
             bytes,
             places,
             out,
+            input,
         );
         let end = p.end;
         io::write_all(STDOUT_FILENO, &out[..end]);
     }
 }
 
-fn run(input: &[u8])
-    requires { ⌜ (1 ≤ length (now input)) × (length (now input) ≤ 1048577) ⌝ }
-{
+fn run(input: &[u8]) {
     let mut slots = [0u64; 8192];
     let mut scalars = [0u64; 8192];
     let mut list = [0u64; 1024];
@@ -83,7 +79,7 @@ fn run(input: &[u8])
     let mut bytes = script_buffer();
     let mut places = [0u64; 65536];
     let mut out = line_buffer();
-    match replaying::start(
+    match script::start(
         &slots,
         &scalars,
         &list,
@@ -92,8 +88,14 @@ fn run(input: &[u8])
         &mut marks,
         &mut order,
         &mut table,
+        &roots,
+        &words,
+        &bytes,
+        &places,
+        &out,
         input,
     ) {
+        Started::Short => {},
         Started::Refused => {},
         Started::Ready(p) => play(
             p,
@@ -106,11 +108,11 @@ fn run(input: &[u8])
             &mut order,
             &mut table,
             &mut roots,
-            input,
             &mut words,
             &mut bytes,
             &mut places,
             &mut out,
+            input,
         ),
     }
 }

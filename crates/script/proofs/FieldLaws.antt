@@ -1,19 +1,19 @@
 -- The operands of a command as one number. Assumes nothing.
-use Prim.Native.Nat.{ℕ, zero, suc, _+_, _*_, _/_, _%_, _≤_, _<_}
+use Prim.Native.Nat.{ℕ, _+_, _*_, _/_, _%_, _≤_}
 use mathlib.Core.Path.{_≡_, refl, sym, ap, _∙_}
 use mathlib.Core.Bool.{Bool, true, false, cond, _&&_}
 use mathlib.Core.List.{List, [], _∷_}
 use mathlib.Core.Option.{Option, none, some}
 use native.Mathlib.Omega.{arith}
-use borrow.Author.Tests.{eqb-true, leb-true}
-use lib.Dec.{T, eqb, leb}
-use lib.ListN.{length, getD, List·getD-eq-default}
-use Rattle.history.proofs.Facts.{T-true}
-use Rattle.script.specs.Fields as Fields
-use Rattle.script.specs.Fields.{Field, codeOf, coded, fieldAt, fieldTable, fieldsOf, shapeOf}
+use borrow.Author.Tests.{leb-true}
+use lib.Dec.{eqb, leb}
+use lib.ListN.{length}
+use Rattle.commands.specs.Rows as Fields
+use Rattle.commands.specs.Rows.{Field, Row, choose, coded, fieldAt, fieldCode, joined}
+use Rattle.commands.specs.Table.{coroutineRows, fieldsCode, fieldsOf, groups, growRows, heapRows, iteratorRows, lentRows, listRows, mapChangeRows, mapNumberRows, mapRows, newListRows, newRows, plainRows, sessionRows, storeRows, table, wordRows}
 
-pub field-code : (f : Field) → fieldAt (codeOf f) ≡ f
-unfolding fieldAt codeOf
+pub field-code : (f : Field) → fieldAt (fieldCode f) ≡ f
+unfolding fieldAt fieldCode
 field-code Fields.b = refl
 field-code Fields.h = refl
 field-code Fields.q = refl
@@ -23,8 +23,8 @@ field-code Fields.W = refl
 field-code Fields.S = refl
 field-code Fields.F = refl
 
-code-range : (f : Field) → (1 ≤ codeOf f) × (codeOf f ≤ 8)
-unfolding codeOf
+code-range : (f : Field) → (1 ≤ fieldCode f) × (fieldCode f ≤ 8)
+unfolding fieldCode
 code-range Fields.b = (omega arith, omega arith)
 code-range Fields.h = (omega arith, omega arith)
 code-range Fields.q = (omega arith, omega arith)
@@ -44,22 +44,18 @@ coded-none (f ∷ fs) e = absurd (omega (arith, code-range f))
 pub coded-field : (f : Field) (fs : List Field) → fieldAt (coded (f ∷ fs) % 16) ≡ f
 unfolding coded
 coded-field f fs =
-    let e : (codeOf f + 16 * coded fs) % 16 ≡ codeOf f = omega (arith, code-range f) in
+    let e : (fieldCode f + 16 * coded fs) % 16 ≡ fieldCode f = omega (arith, code-range f) in
     ap fieldAt e ∙ field-code f
 
 pub coded-rest : (f : Field) (fs : List Field) → coded (f ∷ fs) / 16 ≡ coded fs
 unfolding coded
 coded-rest f fs = omega (arith, code-range f)
 
-pub shape-none : (o : Option (List Field)) → shapeOf o ≡ 15 → o ≡ none
-unfolding shapeOf coded
+pub shape-none : (o : Option (List Field)) → fieldsCode o ≡ 15 → o ≡ none
+unfolding fieldsCode coded
 shape-none none e = refl
 shape-none (some []) e = absurd (omega arith)
 shape-none (some (f ∷ fs)) e = absurd (omega (arith, code-range f))
-
-pub shape-known : (o : Option (List Field)) → (shapeOf o ≡ 15 → ⊥) → (fs : List Field) → o ≡ some fs → coded fs ≡ shapeOf o
-unfolding shapeOf
-shape-known o n fs e = rw e
 
 -- ---- few operands
 
@@ -67,9 +63,9 @@ abbrev few : Option (List Field) → Bool
 few none = true
 few (some fs) = leb (length fs) 9
 
-abbrev all-few : List (Option (List Field)) → Bool
+unfoldable all-few : List Row → Bool
 all-few [] = true
-all-few (o ∷ os) = few o && all-few os
+all-few (r ∷ rs) = leb (length (r .fields)) 9 && all-few rs
 
 and-left : (x y : Bool) → x && y ≡ true → x ≡ true
 and-left true y e = refl
@@ -79,22 +75,21 @@ and-right : (x y : Bool) → x && y ≡ true → y ≡ true
 and-right true y e = e
 and-right false y e = let z : _≡_ {A = ℕ} 0 1 = cc in absurd (omega arith)
 
-few-at : (os : List (Option (List Field))) → all-few os ≡ true → (n : ℕ) → few (getD os n none) ≡ true
+few-cond : (b : Bool) (x y : Option (List Field)) → few x ≡ true → few y ≡ true → few (cond b x y) ≡ true
+few-cond true x y p q = p
+few-cond false x y p q = q
+
+few-at : (rows : List Row) → all-few rows ≡ true → (n : ℕ) → few (choose (λ r. some (r .fields)) none rows n) ≡ true
+unfolding all-few choose
 few-at [] e n = refl
-few-at (o ∷ os) e zero = and-left (few o) (all-few os) e
-few-at (o ∷ os) e (suc n) = few-at os (and-right (few o) (all-few os) e) n
+few-at (r ∷ rs) e n = few-cond (eqb n (r .number)) (some (r .fields)) (choose (λ (r : Row). some (r .fields)) none rs n) (and-left (leb (length (r .fields)) 9) (all-few rs) e) (few-at rs (and-right (leb (length (r .fields)) 9) (all-few rs) e) n)
+
+table-few : all-few table ≡ true
+unfolding all-few table joined groups sessionRows wordRows plainRows listRows coroutineRows mapRows mapNumberRows iteratorRows heapRows newRows storeRows growRows mapChangeRows newListRows lentRows
+table-few = refl
 
 pub fields-few : (n : ℕ) (fs : List Field) → fieldsOf n ≡ some fs → length fs ≤ 9
-unfolding fieldsOf fieldTable
+unfolding fieldsOf
 fields-few n fs e =
-    let t : few (fieldsOf n) ≡ true = few-at fieldTable refl n in
+    let t : few (fieldsOf n) ≡ true = few-at table table-few n in
     leb-true (length fs) 9 (rw e at t)
-
--- ---- the table of the code
-
-abbrev pub isShape : ℕ → ℕ → Bool
-isShape n x = eqb x (shapeOf (fieldsOf n))
-
-pub fields-end : (n : ℕ) → 103 ≤ n → fieldsOf n ≡ none
-unfolding fieldsOf fieldTable
-fields-end n l = List·getD-eq-default fieldTable none l

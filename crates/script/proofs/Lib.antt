@@ -1,4 +1,12 @@
-pub mod Table
 pub mod FieldLaws
 pub mod TakeLaws
 pub mod ParseLaws
+pub mod LineLaws
+pub mod LendLaws
+pub mod ReplayLaws
+pub mod SessionLaws
+pub mod OpeningLaws
+pub mod ActLaws
+pub mod CallLaws
+pub mod TurnLaws
+pub mod RunLaws

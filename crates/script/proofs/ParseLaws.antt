@@ -8,14 +8,15 @@ use native.Mathlib.Omega.{arith}
 use lib.ListN.{length, getD, replicate, take, drop}
 use lib.Seq.{drop-at, length-take-le, take-add, take-take}
 use Rattle.commands.specs.declared.Operands.{Operands}
-use Rattle.script.specs.declared.Call.{Call}
-use Rattle.script.specs.declared.Taken.{Taken}
-use Rattle.script.specs.Fields.{Field, coded, fieldAt, fieldsOf, shapeOf}
+use Rattle.script.specs.declared.Command.{Command}
+use Rattle.script.specs.declared.Reader.{Reader}
+use Rattle.commands.specs.Rows.{Field, coded, fieldAt}
+use Rattle.commands.specs.Table.{fieldsCode, fieldsOf, shapeOf}
 use Rattle.script.specs.Parse.{Called, Parsed, andThen, asCalled, calledBy, calledOf, operandsOf, parse, parseBy, parseCall, parseField, unread}
 use Rattle.script.specs.Reads.{Holds, Parses, Reads, Room, Takes, calledIs, missingOf}
 use Rattle.script.proofs.FieldLaws.{coded-field, coded-none, coded-rest, fields-few, shape-none}
 
-pub record Parsing (command : ℕ) (input : List ℕ) (at : ℕ) (ns ws : List ℕ) (t : Taken) (rest : ℕ) : Type 0 where
+pub record Parsing (command : ℕ) (input : List ℕ) (at : ℕ) (ns ws : List ℕ) (t : Reader) (rest : ℕ) : Type 0 where
   pub left : List Field
   pub parsed : Parsed
   pub code : coded left ≡ rest
@@ -31,15 +32,15 @@ zeros-at zero i = refl
 zeros-at (suc n) zero = refl
 zeros-at (suc n) (suc i) = zeros-at n i
 
-abbrev pub begun : ℕ → Taken
+abbrev pub begun : ℕ → Reader
 begun at = record { at = at; count = 0; words = 0; framed = 0; from = 0; to = 0; known = true }
 
 module _ (command : ℕ) (input : List ℕ) (at : ℕ) (ns ws : List ℕ) (inside : at ≤ length input) (enough : length input ≤ 8 * length ws) (zeros : (i : ℕ) → getD ns i 0 ≡ 0) where
   begun-room : Room input ws (begun at)
   begun-room = record { inside = inside; room = omega arith; framed = omega arith; bytes = omega arith; within = omega arith }
 
-  pub parsing-start : (rest : ℕ) → rest ≡ shapeOf (fieldsOf command) → (rest ≡ 15 → ⊥) → Parsing command input at ns ws (begun at) rest
-  unfolding shapeOf parseCall parseBy unread
+  pub parsing-start : (rest : ℕ) → rest ≡ (shapeOf command) .fields → (rest ≡ 15 → ⊥) → Parsing command input at ns ws (begun at) rest
+  unfolding shapeOf fieldsCode parseCall parseBy unread
   parsing-start rest e n = go (fieldsOf command) refl
     where
       go : (o : Option (List Field)) → fieldsOf command ≡ o → Parsing command input at ns ws (begun at) rest
@@ -56,13 +57,13 @@ module _ (command : ℕ) (input : List ℕ) (at : ℕ) (ns ws : List ℕ) (insid
         onward = omega arith;
       }
 
-  pub parsing-unknown : (rest : ℕ) {r : Taken} → rest ≡ shapeOf (fieldsOf command) → rest ≡ 15 → r ≡ missingOf (begun at) → Room input ws r × ((at ≤ r .at) × Parses input ns ws r (parseCall command (drop at input)))
-  unfolding parseCall parseBy
+  pub parsing-unknown : (rest : ℕ) {r : Reader} → rest ≡ (shapeOf command) .fields → rest ≡ 15 → r ≡ missingOf (begun at) → Room input ws r × ((at ≤ r .at) × Parses input ns ws r (parseCall command (drop at input)))
+  unfolding shapeOf parseCall parseBy
   parsing-unknown rest {r} e z m =
       let f : fieldsOf command ≡ none = shape-none (fieldsOf command) (sym e ∙ z) in
       rw m (record { inside = inside; room = omega arith; framed = omega arith; bytes = omega arith; within = omega arith }, (omega arith, rw f refl))
 
-module _ {command : ℕ} {input : List ℕ} {at : ℕ} {ns ws : List ℕ} {t : Taken} {rest : ℕ} (g : Parsing command input at ns ws t rest) where
+module _ {command : ℕ} {input : List ℕ} {at : ℕ} {ns ws : List ℕ} {t : Reader} {rest : ℕ} (g : Parsing command input at ns ws t rest) where
   pub parsing-few : 0 < rest → t .count < 9
   unfolding coded
   parsing-few h = go (g .left) (g .code) (g .few)
@@ -71,7 +72,7 @@ module _ {command : ℕ} {input : List ℕ} {at : ℕ} {ns ws : List ℕ} {t : T
       go [] e l = absurd (omega arith)
       go (f ∷ fs) e l = omega arith
 
-  module _ {ns′ ws′ : List ℕ} {r : Taken} (h : 0 < rest) (k : Takes (parseField (fieldAt (rest % 16))) input ns ws t ns′ ws′ r) where
+  module _ {ns′ ws′ : List ℕ} {r : Reader} (h : 0 < rest) (k : Takes (parseField (fieldAt (rest % 16))) input ns ws t ns′ ws′ r) where
     pub parsing-onward : Room input ws′ r × (at ≤ r .at)
     parsing-onward = (k .room (g .room), omega (arith, k .onward, g .onward))
 
@@ -117,14 +118,14 @@ module _ {command : ℕ} {input : List ℕ} {at : ℕ} {ns ws : List ℕ} {t : T
       (g .room, (g .onward, rw w (g .known, g .holds)))
 
 -- the operand of a kind
-pub takes-as : {input ns ws : List ℕ} {t : Taken} {ns′ ws′ : List ℕ} {r : Taken} {f : Parsed → Option Parsed} (kind : ℕ) → ((p : Parsed) → parseField (fieldAt kind) p ≡ f p) → Takes f input ns ws t ns′ ws′ r → Takes (parseField (fieldAt kind)) input ns ws t ns′ ws′ r
+pub takes-as : {input ns ws : List ℕ} {t : Reader} {ns′ ws′ : List ℕ} {r : Reader} {f : Parsed → Option Parsed} (kind : ℕ) → ((p : Parsed) → parseField (fieldAt kind) p ≡ f p) → Takes f input ns ws t ns′ ws′ r → Takes (parseField (fieldAt kind)) input ns ws t ns′ ws′ r
 takes-as kind e k = record { room = k .room; few = k .few; onward = k .onward; parses = λ p g. rw (e p) (k .parses p g) }
 
 -- ---- the call
 
-module _ {input : List ℕ} (ns : List ℕ) {ws : List ℕ} {t : Taken} (at : ℕ) (m : Room input ws t) (on : at + 1 ≤ t .at) {o : Operands} (eo : o ≡ operandsOf ns) where
-  abbrev callOf : Call
-  callOf = record { operands = o; seventh = getD ns 6 0; eighth = getD ns 7 0; words = t .words - t .framed; frames = t .framed; from = t .from; to = t .to; next = t .at; known = t .known }
+module _ {input : List ℕ} (ns : List ℕ) {ws : List ℕ} {t : Reader} (at : ℕ) (m : Room input ws t) (on : at + 1 ≤ t .at) {o : Operands} (eo : o ≡ operandsOf ns) where
+  abbrev callOf : Command
+  callOf = record { operands = o; words = t .words - t .framed; frames = t .framed; from = t .from; to = t .to; next = t .at; known = t .known }
 
   held : (p : Parsed) → Holds input ns ws t p → t .known ≡ true → calledIs input ws callOf ≡ some (calledOf p)
   unfolding calledIs calledOf operandsOf

@@ -11,10 +11,10 @@ use lib.Dec.{leb}
 use lib.ListN.{length, getD, set, take, drop, length-append, length-drop, length-set, List·getD-append, List·getD-eq-default}
 use lib.Seq.{drop-drop, getD-append-seam, getD-set-other, getD-set-same, take-suc-set}
 use Rattle.history.proofs.Facts.{leb-yes, leb-no}
-use Rattle.slots.proofs.Cases.{by-cases, lt-or-le}
+use Rattle.heap_slots.proofs.Cases.{by-cases, lt-or-le}
 use Rattle.model.specs.Callsheet.{littleEndian}
 use Rattle.text.specs.Puts.{ReadsLittle}
-use Rattle.script.specs.declared.Taken.{Taken}
+use Rattle.script.specs.declared.Reader.{Reader}
 use Rattle.script.specs.Parse.{Parsed, takeList, takeNumber, withBytes, withFrames, withNumber, withWords, wordsIn}
 use Rattle.script.specs.Reads.{Fills, Holds, Parses, Room, Takes, missingOf}
 
@@ -55,7 +55,7 @@ filling-end {i = i} n g h k =
 
 -- ---- missing operands
 
-module _ {input ns ws : List ℕ} {t : Taken} where
+module _ {input ns ws : List ℕ} {t : Reader} where
   takes-none : {reads : Parsed → Option Parsed} → ((p : Parsed) → Holds input ns ws t p → reads p ≡ none) → Takes reads input ns ws t ns ws (missingOf t)
   takes-none f = record {
     room = λ r. record { inside = r .inside; room = r .room; framed = r .framed; bytes = r .bytes; within = r .within };
@@ -65,11 +65,11 @@ module _ {input ns ws : List ℕ} {t : Taken} where
   }
 
   -- too few bytes, or too large a number
-  pub number-short : (size most : ℕ) {r : Taken} → r ≡ missingOf t → length input - t .at < size → Takes (takeNumber size most) input ns ws t ns ws r
+  pub number-short : (size most : ℕ) {r : Reader} → r ≡ missingOf t → length input - t .at < size → Takes (takeNumber size most) input ns ws t ns ws r
   unfolding takeNumber
   number-short size most {r} e h = rw e (takes-none (λ p g. let l : length (p .rest) < size = rw (← g .rest) (omega (arith, length-drop (t .at) input)) in rw (leb-no size (length (p .rest)) l)))
 
-  pub number-large : (size most : ℕ) {x : ℕ} {r : Taken} → r ≡ missingOf t → size ≤ length input - t .at → ReadsLittle input (t .at) size x → most < x → Takes (takeNumber size most) input ns ws t ns ws r
+  pub number-large : (size most : ℕ) {x : ℕ} {r : Reader} → r ≡ missingOf t → size ≤ length input - t .at → ReadsLittle input (t .at) size x → most < x → Takes (takeNumber size most) input ns ws t ns ws r
   unfolding takeNumber
   number-large size most {x} {r} e h q m =
       rw e
@@ -79,11 +79,11 @@ module _ {input ns ws : List ℕ} {t : Taken} where
       let y : littleEndian (take size (p .rest)) ≡ x = rw (← g .rest) (sym (q .is)) in
       rw (leb-yes size (length (p .rest)) l, y, leb-no x most m)))
 
-  pub list-short : (size : ℕ) (more : ℕ → List ℕ → Parsed → Parsed) {r : Taken} → r ≡ missingOf t → length input - t .at < 8 → Takes (takeList size more) input ns ws t ns ws r
+  pub list-short : (size : ℕ) (more : ℕ → List ℕ → Parsed → Parsed) {r : Reader} → r ≡ missingOf t → length input - t .at < 8 → Takes (takeList size more) input ns ws t ns ws r
   unfolding takeList
   list-short size more {r} e h = rw e (takes-none (λ p g. let l : length (p .rest) < 8 = rw (← g .rest) (omega (arith, length-drop (t .at) input)) in rw (leb-no 8 (length (p .rest)) l)))
 
-  pub list-large : (size : ℕ) (more : ℕ → List ℕ → Parsed → Parsed) {n : ℕ} {r : Taken} → r ≡ missingOf t → 8 ≤ length input - t .at → ReadsLittle input (t .at) 8 n → length input - (t .at + 8) < size * n → Takes (takeList size more) input ns ws t ns ws r
+  pub list-large : (size : ℕ) (more : ℕ → List ℕ → Parsed → Parsed) {n : ℕ} {r : Reader} → r ≡ missingOf t → 8 ≤ length input - t .at → ReadsLittle input (t .at) 8 n → length input - (t .at + 8) < size * n → Takes (takeList size more) input ns ws t ns ws r
   unfolding takeList
   list-large size more {n} {r} e h q m =
       rw e
@@ -106,10 +106,10 @@ snoc-at ns ms n x e h f i =
     let z : i ≡ n = omega arith in
     rw z (getD-set-same ns n x 0 h ∙ rw e (sym (getD-append-seam ms x [] 0)))))
 
-abbrev pub numbered : Taken → ℕ → Taken
+abbrev pub numbered : Reader → ℕ → Reader
 numbered t size = record { at = t .at + size; count = t .count + 1; words = t .words; framed = t .framed; from = t .from; to = t .to; known = true }
 
-pub number-taken : {input ns ws : List ℕ} {t : Taken} (size most : ℕ) {x : ℕ} → size ≤ length input - t .at → t .at ≤ length input → t .count < length ns → ReadsLittle input (t .at) size x → x ≤ most → Takes (takeNumber size most) input ns ws t (set ns (t .count) x) ws (numbered t size)
+pub number-taken : {input ns ws : List ℕ} {t : Reader} (size most : ℕ) {x : ℕ} → size ≤ length input - t .at → t .at ≤ length input → t .count < length ns → ReadsLittle input (t .at) size x → x ≤ most → Takes (takeNumber size most) input ns ws t (set ns (t .count) x) ws (numbered t size)
 unfolding takeNumber withNumber
 number-taken {input} {ns} {ws} {t} size most {x} h a b q m = record {
   room = λ r. record { inside = omega arith; room = omega (arith, r .room); framed = r .framed; bytes = r .bytes; within = r .within };
@@ -133,7 +133,7 @@ number-taken {input} {ns} {ws} {t} size most {x} h a b q m = record {
 
 -- ---- lists
 
-module _ {input ns ws : List ℕ} {t : Taken} {n : ℕ} (h : 8 ≤ length input - t .at) (q : ReadsLittle input (t .at) 8 n) where
+module _ {input ns ws : List ℕ} {t : Reader} {n : ℕ} (h : 8 ≤ length input - t .at) (q : ReadsLittle input (t .at) 8 n) where
   -- what is read where the items are there
   listed : (size : ℕ) (more : ℕ → List ℕ → Parsed → Parsed) (p : Parsed) → Holds input ns ws t p → size * n ≤ length input - (t .at + 8) → takeList size more p ≡ some (more n (drop (t .at + 8) input) p)
   unfolding takeList

@@ -1,3 +1,5 @@
-pub mod Fields
 pub mod Parse
 pub mod Reads
+pub mod Lines
+pub mod Replay
+pub mod Turns

@@ -7,7 +7,8 @@ use lib.Dec.{leb}
 use lib.ListN.{length, getD, take, drop}
 use Rattle.model.specs.Callsheet.{littleEndian}
 use Rattle.commands.specs.declared.Operands.{Operands}
-use Rattle.script.specs.Fields.{Field, b, h, q, c, d, W, S, F, fieldsOf}
+use Rattle.commands.specs.Rows.{Field, b, h, q, c, d, W, S, F}
+use Rattle.commands.specs.Table.{fieldsOf}
 
 -- what is read so far: the numbers; the words of W and F, and how many of them, the last, are of F; the bytes of S; and the bytes left
 pub record Parsed : Type 0 where
@@ -80,13 +81,10 @@ parseCall n bs = parseBy (fieldsOf n) bs
 
 -- the numbers in order; what a command does not have is 0
 unfoldable pub operandsOf : List ℕ → Operands
-operandsOf ns = record { a = getD ns 0 0; b = getD ns 1 0; c = getD ns 2 0; d = getD ns 3 0; e = getD ns 4 0; f = getD ns 5 0 }
+operandsOf ns = record { a = getD ns 0 0; b = getD ns 1 0; c = getD ns 2 0; d = getD ns 3 0; e = getD ns 4 0; f = getD ns 5 0; g = getD ns 6 0; h = getD ns 7 0 }
 
--- an opening alone has a seventh and an eighth number
 pub record Called : Type 0 where
   pub operands : Operands
-  pub seventh : ℕ
-  pub eighth : ℕ
   pub words : List ℕ
   pub frames : List ℕ
   pub bytes : List ℕ
@@ -95,7 +93,7 @@ pub record Called : Type 0 where
 unfoldable pub calledOf : Parsed → Called
 calledOf p =
     let n = length p.words - p.framed in
-    record { operands = operandsOf p.numbers; seventh = getD p.numbers 6 0; eighth = getD p.numbers 7 0; words = take n p.words; frames = drop n p.words; bytes = p.bytes; rest = p.rest }
+    record { operands = operandsOf p.numbers; words = take n p.words; frames = drop n p.words; bytes = p.bytes; rest = p.rest }
 
 unfoldable pub asCalled : Option Parsed → Option Called
 asCalled none = none

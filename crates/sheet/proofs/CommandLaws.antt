@@ -21,7 +21,7 @@ use Rattle.model.specs.Model.{Model}
 use Rattle.model.specs.Step.{step}
 use Rattle.model.specs.Callsheet.{Sheet, answerWord, callOf, called, commanded, digits, littleEndian, operandBytes, present-operands, printed, rooted, unknown}
 use Rattle.heap.specs.State.{State, modelOf}
-use Rattle.sheet.specs.declared.Shown.{Shown}
+use Rattle.sheet.specs.declared.SheetLine.{SheetLine}
 use Rattle.sheet.specs.declared.Operands.{Operands}
 use Rattle.sheet.specs.declared.Operands.the-variants.{Bytes, Missing}
 use Rattle.sheet.specs.Turns.{Supplied, operandsIs, turnBy, turnOf}
@@ -71,14 +71,14 @@ turn-short s c bs = go (present-operands (length bs) (operandBytes c))
 
 -- ---- a call and its line
 
-pub commands-call : {l : Layout} (c : ℕ) {bs roots : List ℕ} {b a : State} {r : Shown} {out out′ : List ℕ} {end end′ : ℕ} → (c ≡ 0x0B → ⊥) → Shows l (callOf c bs roots) b r a →
+pub commands-call : {l : Layout} (c : ℕ) {bs roots : List ℕ} {b a : State} {r : SheetLine} {out out′ : List ℕ} {end end′ : ℕ} → (c ≡ 0x0B → ⊥) → Shows l (callOf c bs roots) b r a →
     Puts (printed (digits 16 2 c) (r .refusal) (r .word) (a .heap .account .used)) out end out′ end′ → Commands (sheetOf l b roots) c bs out end (sheetOf l a roots) out′ end′
 unfolding commanded called seen modelOf
 commands-call {l} c {bs} {roots} {b} {a} {r} h s p =
     let o = step (modelOf l b) (callOf c bs roots) in
     let n = eqb-no c 0x0B h in
-    let er : r .refusal ≡ o.refusal = ap (λ (x : Shown). x .refusal) (s .shown) in
-    let ew : r .word ≡ answerWord o.answer = ap (λ (x : Shown). x .word) (s .shown) in
+    let er : r .refusal ≡ o.refusal = ap (λ (x : SheetLine). x .refusal) (s .shown) in
+    let ew : r .word ≡ answerWord o.answer = ap (λ (x : SheetLine). x .word) (s .shown) in
     let eu : a .heap .account .used ≡ o .next .account .used = ap (λ (m : Model). m .account .used) (s .next) in
     record {
       text = rw n (rw (er, ew, eu) at p);

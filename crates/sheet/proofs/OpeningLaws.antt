@@ -9,7 +9,7 @@ use lib.Dec.{leb}
 use lib.ListN.{length, take, length-take}
 use lib.Seq.{length-take-le, take-all, take-take}
 use Rattle.history.proofs.Facts.{leb-no, leb-yes}
-use Rattle.slots.proofs.Cases.{by-cases, lt-or-le}
+use Rattle.heap_slots.proofs.Cases.{by-cases, lt-or-le}
 use Rattle.layout.specs.Layout as Layout-
 use Rattle.layout.specs.Sections.{layoutOf}
 use Rattle.model.specs.Model.{Model}

@@ -8,12 +8,12 @@ use Rattle.model.specs.Model.{Model}
 use Rattle.history.proofs.Sizes.{step-size}
 use Rattle.heap.specs.State.{State, modelOf}
 use Rattle.heap.specs.Good.{Ready}
-use Rattle.sheet.specs.declared.Shown.{Shown}
+use Rattle.sheet.specs.declared.SheetLine.{SheetLine}
 use Rattle.sheet.specs.Promise.{Shows}
 
-size-kept : {l : Layout} {k : Call} {b a : State} {r : Shown} → Shows l k b r a → a .heap .size ≡ b .heap .size
+size-kept : {l : Layout} {k : Call} {b a : State} {r : SheetLine} → Shows l k b r a → a .heap .size ≡ b .heap .size
 unfolding modelOf
 size-kept {l} {k} {b} s = ap (λ (m : Model). m .table .size) (s .next) ∙ step-size (modelOf l b) k
 
-pub ready-after : {l : Layout} {k : Call} {b a : State} {r : Shown} {marks order marks′ order′ layout table : List ℕ} → Ready b marks order layout table → Shows l k b r a → marks′ ≡ marks → order′ ≡ order → Ready a marks′ order′ layout table
+pub ready-after : {l : Layout} {k : Call} {b a : State} {r : SheetLine} {marks order marks′ order′ layout table : List ℕ} → Ready b marks order layout table → Shows l k b r a → marks′ ≡ marks → order′ ≡ order → Ready a marks′ order′ layout table
 ready-after {a = a} {table = table} g s em eo = record { good = s .good; rested = rw (size-kept s, em, eo) (g .rested); tabled = g .tabled }

@@ -25,7 +25,7 @@ use Rattle.heap.specs.Promise.{Does, Performs}
 use Rattle.collector.specs.declared.Collection.{Collection}
 use Rattle.collector.specs.declared.Collection.the-variants as Collect
 use Rattle.collector.specs.Answer.{collectionIs}
-use Rattle.sheet.specs.declared.Shown.{Shown}
+use Rattle.sheet.specs.declared.SheetLine.{SheetLine}
 use Rattle.sheet.specs.Promise.{Roots, Shows, shownOf}
 
 module _ (h : Heap) where
@@ -52,7 +52,7 @@ module _ (h : Heap) where
 
 -- ---- from what a call promises
 
-module _ {b : State} {h : Heap} {s x f d c : List ℕ} {r : Shown} where
+module _ {b : State} {h : Heap} {s x f d c : List ℕ} {r : SheetLine} where
   pub shows-does : {l : Layout} {k : Call} {o : Seen} → Does l k b o (state h s x f d c) → r ≡ shownOf h o → Shows l k b r (state (r .heap) s x f d c)
   shows-does p e = rw e record { shown = ap (λ (o : Seen). shownOf h o) (p .shows); next = p .next; good = p .good }
 
@@ -63,7 +63,7 @@ module _ {b : State} {h : Heap} {s x f d c : List ℕ} {r : Shown} where
   shows-made k′ a q p e l = rw q at (shows-does (p l) (e ∙ shown-made h a))
 
 -- the same call by another name
-pub shows-same : {l : Layout} {k k′ : Call} {b a : State} {r : Shown} → k ≡ k′ → Shows l k b r a → Shows l k′ b r a
+pub shows-same : {l : Layout} {k k′ : Call} {b a : State} {r : SheetLine} → k ≡ k′ → Shows l k b r a → Shows l k′ b r a
 shows-same e p = rw e at p
 
 pub signed-same : (w : ℕ) → Word.signedBits w ≡ Store.signed64 w

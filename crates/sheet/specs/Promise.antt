@@ -16,7 +16,7 @@ use Rattle.heap.specs.State.{State, modelOf}
 use Rattle.heap.specs.Good.{Good}
 use Rattle.sheet.specs.declared.Printed.{Printed}
 use Rattle.sheet.specs.declared.Printed.the-variants.{Short, Text}
-use Rattle.sheet.specs.declared.Shown.{Shown}
+use Rattle.sheet.specs.declared.SheetLine.{SheetLine}
 use Rattle.sheet.specs.Turns.{turnOf}
 
 -- the sheet that the heap's state and the roots hold
@@ -24,11 +24,11 @@ abbrev pub sheetOf : Layout → State → List ℕ → Sheet
 sheetOf l t roots = record { heap = modelOf l t; roots = roots }
 
 -- what a line shows of a call
-abbrev pub shownOf : Heap → Seen → Shown
+abbrev pub shownOf : Heap → Seen → SheetLine
 shownOf h o = record { heap = h; word = answerWord (o .answer); refusal = o .refusal }
 
 -- the call k was made on the state b, left the state a, and r is shown of it
-pub record Shows (l : Layout) (k : Call) (b : State) (r : Shown) (a : State) : Type 0 where
+pub record Shows (l : Layout) (k : Call) (b : State) (r : SheetLine) (a : State) : Type 0 where
   pub shown : r ≡ shownOf (a .heap) (seen (step (modelOf l b) k))
   pub next : modelOf l a ≡ (step (modelOf l b) k) .next
   pub good : Good a

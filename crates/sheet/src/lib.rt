@@ -37,7 +37,7 @@ pub enum Printed {
 }
 
 // What a line shows of a call, and the heap's record after it.
-pub struct Shown {
+pub struct SheetLine {
     pub heap: Heap,
     pub word: u64,
     pub refusal: u64,
@@ -98,16 +98,16 @@ fn operands_at(input: &[u8], at: usize) -> Operands
 // ---- lines
 
 // A word answered, or the refusal.
-fn show(heap: Heap, answer: Reading) -> Shown
+fn show(heap: Heap, answer: Reading) -> SheetLine
     ensures { λ r. ⌜ r ≡ shownOf heap (readingIs answer) ⌝ }
 {
     match answer {
-        Reading::Is(word) => Shown {
+        Reading::Is(word) => SheetLine {
             heap,
             word,
             refusal: 0,
         },
-        Reading::Refused(q) => Shown {
+        Reading::Refused(q) => SheetLine {
             heap,
             word: 0,
             refusal: heap::number_of(q),
@@ -116,16 +116,16 @@ fn show(heap: Heap, answer: Reading) -> Shown
 }
 
 // The number of objects freed.
-fn show_collected(heap: Heap, answer: Collection) -> Shown
+fn show_collected(heap: Heap, answer: Collection) -> SheetLine
     ensures { λ r. ⌜ ((places : List ℕ) → r ≡ shownOf heap (collectionIs answer places)) ⌝ }
 {
     match answer {
-        Collection::Done(freed, listed) => Shown {
+        Collection::Done(freed, listed) => SheetLine {
             heap,
             word: freed,
             refusal: 0,
         },
-        Collection::Refused(q) => Shown {
+        Collection::Refused(q) => SheetLine {
             heap,
             word: 0,
             refusal: heap::number_of(q),
@@ -164,13 +164,13 @@ fn call_box(
     directory: &[u64],
     cells: &[u64],
     operands: &[u8],
-) -> Shown
+) -> SheetLine
     requires { ⌜ Good (lent heap slots scalars list directory cells) ⌝ }
     requires { ⌜ 8 ≤ length (now operands) ⌝ }
     ensures { λ r. ⌜ ((l : Layout) → Shows l (Calls.new-box (littleEndian (take 8 (now (operands .entry))))) (before heap slots scalars list directory cells) r (after (r .heap) slots scalars list directory cells)) ⌝ }
 {
     let w = text::read_little(operands, 0, 8);
-    let m = allocation::new_box(heap, slots, scalars, list, directory, cells, w);
+    let m = heap_allocation::new_box(heap, slots, scalars, list, directory, cells, w);
     let a = m.answer;
     let h = m.heap;
     show(h, a)
@@ -184,14 +184,14 @@ fn call_array(
     directory: &mut [u64],
     cells: &mut [u64],
     operands: &[u8],
-) -> Shown
+) -> SheetLine
     requires { ⌜ Good (lent heap slots scalars list directory cells) ⌝ }
     requires { ⌜ 9 ≤ length (now operands) ⌝ }
     ensures { λ r. ⌜ ((l : Layout) → Shows l (Calls.new-array (getD (now (operands .entry)) 0 0) (signed64 (littleEndian (take 8 (drop 1 (now (operands .entry))))))) (before heap slots scalars list directory cells) r (after (r .heap) slots scalars list directory cells)) ⌝ }
 {
     let n = words::signed_of(text::read_little(operands, 1, 8));
     let t = operands[0] as u64;
-    let m = allocation::new_array(heap, slots, scalars, list, directory, cells, t, n);
+    let m = heap_allocation::new_array(heap, slots, scalars, list, directory, cells, t, n);
     let a = m.answer;
     let h = m.heap;
     show(h, a)
@@ -205,13 +205,13 @@ fn call_read(
     directory: &[u64],
     cells: &[u64],
     operands: &[u8],
-) -> Shown
+) -> SheetLine
     requires { ⌜ Good (lent heap slots scalars list directory cells) ⌝ }
     requires { ⌜ 8 ≤ length (now operands) ⌝ }
     ensures { λ r. ⌜ ((l : Layout) → Shows l (Calls.read-box (littleEndian (take 8 (now (operands .entry))))) (before heap slots scalars list directory cells) r (before (r .heap) slots scalars list directory cells)) ⌝ }
 {
     let w = text::read_little(operands, 0, 8);
-    let a = access::read_box(heap, slots, scalars, list, directory, cells, w);
+    let a = heap_access::readings::read_box(heap, slots, scalars, list, directory, cells, w);
     show(heap, a)
 }
 
@@ -228,7 +228,7 @@ fn call_collect(
     layout: &[u8],
     table: &[u64],
     roots: &[u64],
-) -> Shown
+) -> SheetLine
     requires { ⌜ Ready (lent heap slots scalars list directory cells) (now marks) (now order) (now layout) (now table) ⌝ }
     ensures { λ r. ⌜ Shows (layoutOf (now (layout .entry))) (Calls.collect (now (roots .entry)) []) (before heap slots scalars list directory cells) r (after (r .heap) slots scalars list directory cells) ⌝ }
     ensures { λ r. ⌜ now (marks .exit) ≡ now (marks .entry) ⌝ }
@@ -269,7 +269,7 @@ fn call(
     roots: &[u64],
     command: u8,
     operands: &[u8],
-) -> Shown
+) -> SheetLine
     requires { ⌜ Ready (lent heap slots scalars list directory cells) (now marks) (now order) (now layout) (now table) ⌝ }
     requires { ⌜ Supplied command (now operands) ⌝ }
     ensures { λ r. ⌜ Shows (layoutOf (now (layout .entry))) (callOf command (now (operands .entry)) (now (roots .entry))) (before heap slots scalars list directory cells) r (after (r .heap) slots scalars list directory cells) ⌝ }

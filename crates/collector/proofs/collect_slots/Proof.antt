@@ -1,5 +1,5 @@
 use Rattle.layout.specs.Sections.{layoutOf}
-use Rattle.finalizing.proofs.Keeping.{scanned-room}
+use Rattle.collector_finalizing.proofs.Keeping.{scanned-room}
 use Rattle.collector.proofs.Ends.{kept-done, kept-short, listed-fits, listed-length, listed-slots, finalized-sweepable, collects, ends-short, ends-swept}
 use borrow.Author.Needs.{needs}
 use Rattle.collector.proofs.collect_slots.Statement.{statement}
@@ -7,9 +7,9 @@ use Rattle.collector.proofs.collect_slots.Tie as tie
 use Rattle.collector.proofs.collect_slots.Reads as reads
 use Rattle.collector.proofs.collect_slots.Lts as lts
 use Rattle.collector.proofs.sweep.Reads as sweep-reads
-use Rattle.finalizing.proofs.finalize.Reads as finalize-reads
-use Rattle.finalizing.proofs.mark_kept.Reads as mark-kept-reads
-use Rattle.marking.proofs.unmark.Reads as unmark-reads
+use Rattle.collector_finalizing.proofs.finalize.Reads as finalize-reads
+use Rattle.collector_finalizing.proofs.mark_kept.Reads as mark-kept-reads
+use Rattle.collector_marking.proofs.unmark.Reads as unmark-reads
 
 -- src/lib.rt:153:9
 mark-kept-requires : tie.Need-mark-kept-requires

@@ -1,6 +1,6 @@
 use mathlib.Core.Path.{ap, sym, _∙_}
 use native.Mathlib.Omega.{arith}
-use Rattle.slots.specs.declared.Header.{Header}
+use Rattle.heap_slots.specs.declared.Header.{Header}
 use Rattle.heap.proofs.PlaceLaws.{coroutine-max}
 use Rattle.collector.proofs.Weighing.{weight-le}
 use Rattle.collector.proofs.Looking.{look-vacant, look-weighable, look-stays, look-retires, look-returns}
@@ -12,8 +12,8 @@ use Rattle.collector.proofs.sweep_slot.Lts as lts
 use Rattle.collector.proofs.empty.Reads as empty-reads
 use Rattle.collector.proofs.weigh.Reads as weigh-reads
 use Rattle.heap.proofs.placing.coroutine_of.Reads as coroutine-of-reads
-use Rattle.slots.proofs.read_header.Reads as read-header-reads
-use Rattle.slots.proofs.write_header.Reads as write-header-reads
+use Rattle.heap_slots.proofs.read_header.Reads as read-header-reads
+use Rattle.heap_slots.proofs.write_header.Reads as write-header-reads
 
 read-header-requires : tie.Need-read-header-requires
 read-header-requires c κs = search needs

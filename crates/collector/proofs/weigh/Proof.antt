@@ -1,13 +1,13 @@
 use mathlib.Core.Path.{ap}
 use native.Mathlib.Omega.{arith}
-use Rattle.slots.specs.declared.Scalars.{Scalars}
+use Rattle.heap_slots.specs.declared.CoroutineScalars.{CoroutineScalars}
 use Rattle.collector.proofs.Weighing.{weight-string, weight-array, weight-map, weight-struct, weight-function, weight-iterator, weight-coroutine, weight-none, entries-weigh, frames-weigh}
 use borrow.Author.Needs.{needs}
 use Rattle.collector.proofs.weigh.Statement.{statement}
 use Rattle.collector.proofs.weigh.Tie as tie
 use Rattle.collector.proofs.weigh.Reads as reads
 use Rattle.collector.proofs.weigh.Lts as lts
-use Rattle.slots.proofs.read_scalars.Reads as read-scalars-reads
+use Rattle.heap_slots.proofs.read_coroutine.Reads as read-coroutine-reads
 
 -- src/lib.rt:36:14
 add-result : tie.Need-add-result
@@ -58,8 +58,8 @@ add-result-7 : tie.Need-add-result-7
 add-result-7 c = search needs
 
 -- src/lib.rt:43:17
-read-scalars-requires : tie.Need-read-scalars-requires
-read-scalars-requires c κs = search needs
+read-coroutine-requires : tie.Need-read-coroutine-requires
+read-coroutine-requires c κs = search needs
 
 -- src/lib.rt:44:37
 mul-result-6 : tie.Need-mul-result-6
@@ -71,15 +71,15 @@ add-result-8 c = omega (arith, (c .before .before .before .before .before .pre) 
 
 -- src/lib.rt:44:49
 mul-result-7 : tie.Need-mul-result-7
-mul-result-7 c = omega (arith, frames-weigh ((c .before .before .before .before .before .before .before .pre) .1 .1) ((c .before .before .before .before .before .before .before .pre) .1 .0) (ap (λ (y : Scalars). y .f) (c .before .before .before .before .read-scalars .ensures)) (c .before .before .before .before .before .match .keys7))
+mul-result-7 c = omega (arith, frames-weigh ((c .before .before .before .before .before .before .before .pre) .1 .1) ((c .before .before .before .before .before .before .before .pre) .1 .0) (ap (λ (y : CoroutineScalars). y .frames) (c .before .before .before .before .read-coroutine .ensures)) (c .before .before .before .before .before .match .keys7))
 
 -- src/lib.rt:44:23
 add-result-9 : tie.Need-add-result-9
-add-result-9 c = omega (arith, frames-weigh ((c .before .before .before .before .before .before .before .pre) .1 .1) ((c .before .before .before .before .before .before .before .pre) .1 .0) (ap (λ (y : Scalars). y .f) (c .before .before .before .before .read-scalars .ensures)) (c .before .before .before .before .before .match .keys7), (c .before .before .before .before .before .before .before .pre) .1 .0 .registers (c .before .before .before .before .before .match .keys7), (c .before .before .before .before .before .before .before .pre) .1 .1 .coroutine .1)
+add-result-9 c = omega (arith, frames-weigh ((c .before .before .before .before .before .before .before .pre) .1 .1) ((c .before .before .before .before .before .before .before .pre) .1 .0) (ap (λ (y : CoroutineScalars). y .frames) (c .before .before .before .before .read-coroutine .ensures)) (c .before .before .before .before .before .match .keys7), (c .before .before .before .before .before .before .before .pre) .1 .0 .registers (c .before .before .before .before .before .match .keys7), (c .before .before .before .before .before .before .before .pre) .1 .1 .coroutine .1)
 
 -- src/lib.rt:44:13
 add-result-10 : tie.Need-add-result-10
-add-result-10 c = omega (arith, frames-weigh ((c .before .before .before .before .before .before .before .before .pre) .1 .1) ((c .before .before .before .before .before .before .before .before .pre) .1 .0) (ap (λ (y : Scalars). y .f) (c .before .before .before .before .before .read-scalars .ensures)) (c .before .before .before .before .before .before .match .keys7), (c .before .before .before .before .before .before .before .before .pre) .1 .0 .registers (c .before .before .before .before .before .before .match .keys7), (c .before .before .before .before .before .before .before .before .pre) .1 .1 .coroutine .1, (c .before .before .before .before .before .before .before .before .pre) .1 .1 .slot .1)
+add-result-10 c = omega (arith, frames-weigh ((c .before .before .before .before .before .before .before .before .pre) .1 .1) ((c .before .before .before .before .before .before .before .before .pre) .1 .0) (ap (λ (y : CoroutineScalars). y .frames) (c .before .before .before .before .before .read-coroutine .ensures)) (c .before .before .before .before .before .before .match .keys7), (c .before .before .before .before .before .before .before .before .pre) .1 .0 .registers (c .before .before .before .before .before .before .match .keys7), (c .before .before .before .before .before .before .before .before .pre) .1 .1 .coroutine .1, (c .before .before .before .before .before .before .before .before .pre) .1 .1 .slot .1)
 
 -- src/lib.rt:28:1
 returns : tie.Need-returns
@@ -107,7 +107,7 @@ returns-6 c = weight-iterator _ _ _ (c .before .match .keys6)
 
 -- src/lib.rt:28:1
 returns-7 : tie.Need-returns-7
-returns-7 c = weight-coroutine _ _ _ (ap (λ (y : Scalars). y .f) (c .before .before .before .before .before .read-scalars .ensures)) (c .before .before .before .before .before .before .match .keys7)
+returns-7 c = weight-coroutine _ _ _ (ap (λ (y : CoroutineScalars). y .frames) (c .before .before .before .before .before .read-coroutine .ensures)) (c .before .before .before .before .before .before .match .keys7)
 
 -- src/lib.rt:28:1
 returns-8 : tie.Need-returns-8
@@ -129,7 +129,7 @@ weigh-spec =
     mul-result-5
     add-result-6
     add-result-7
-    read-scalars-requires
+    read-coroutine-requires
     mul-result-6
     add-result-8
     mul-result-7

@@ -4,7 +4,7 @@ use native.Mathlib.Omega.{arith}
 use borrow.Author.Needs.{needs}
 use lib.ListN.{length}
 use Rattle.heap.specs.State.{state}
-use Rattle.record.specs.Record.{loaded}
+use Rattle.heap_record.specs.Record.{loaded}
 use Rattle.heap_bench.specs.Loops.{steps}
 use Rattle.heap_bench.proofs.Laws.{Summing, run-end, sum-end, sum-start, sum-turn, visit-word}
 use Rattle.heap_bench.proofs.heap_bench_iter_next.Statement.{statement}

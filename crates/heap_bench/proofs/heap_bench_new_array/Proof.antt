@@ -8,7 +8,7 @@ use mir.Facts.{toZ-ofZ}
 use mir.Syntax.{w64}
 use mir.Val.{toZ}
 use Rattle.heap.specs.State.{state}
-use Rattle.record.specs.Record.{loaded}
+use Rattle.heap_record.specs.Record.{loaded}
 use Rattle.heap_bench.specs.Loops.{arrays}
 use Rattle.heap_bench.proofs.Laws.{Filling, fill-end, fill-start, fill-turn, filled-same, made-word, ran-same, run-end}
 use Rattle.heap_bench.proofs.heap_bench_new_array.Statement.{statement}

@@ -4,7 +4,7 @@ use native.Mathlib.Omega.{arith}
 use borrow.Author.Needs.{needs}
 use lib.ListN.{length}
 use Rattle.heap.specs.State.{state}
-use Rattle.record.specs.Record.{loaded}
+use Rattle.heap_record.specs.Record.{loaded}
 use Rattle.heap_bench.specs.Loops.{boxes}
 use Rattle.heap_bench.proofs.Laws.{Filling, fill-end, fill-start, fill-turn, made-word, run-end}
 use Rattle.heap_bench.proofs.heap_bench_new_box.Statement.{statement}

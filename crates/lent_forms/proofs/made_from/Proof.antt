@@ -53,20 +53,20 @@ use Rattle.heap.specs.Answers.{madeIs}
 use Rattle.heap.specs.State.{State, state}
 use Rattle.heap.specs.Good.{Good}
 use Rattle.heap.specs.Promise.{Performs}
-use Rattle.allocation.specs.declared.Coroutine.{Coroutine}
-use Rattle.allocation.specs.Coroutines.{callOf}
+use Rattle.heap_allocation.specs.declared.Coroutine.{Coroutine}
+use Rattle.heap_allocation.specs.Coroutines.{callOf}
 use Rattle.model.proofs.Frame as T
 use Rattle.model.proofs.Frame.Laws as T′
 use Rattle.heap.proofs.Heap as P
 use Rattle.heap.proofs.Heap.Laws as P′
 use Rattle.heap.proofs.Made as D
 use Rattle.heap.proofs.Made.Laws as D′
-use Rattle.allocation.proofs.Coroutine as K
-use Rattle.allocation.proofs.Coroutine.Laws as K′
-use Rattle.allocation.proofs.new_coroutine as made
-use Rattle.allocation.proofs.new_coroutine.Symbol as made-def
-use Rattle.allocation.proofs.new_coroutine.Symbol.{name as #allocation·new-coroutine}
-use Rattle.allocation.proofs.new_coroutine.Met as made-thm
+use Rattle.heap_allocation.proofs.Coroutine as K
+use Rattle.heap_allocation.proofs.Coroutine.Laws as K′
+use Rattle.heap_allocation.proofs.new_coroutine as made
+use Rattle.heap_allocation.proofs.new_coroutine.Symbol as made-def
+use Rattle.heap_allocation.proofs.new_coroutine.Symbol.{name as #allocation·new-coroutine}
+use Rattle.heap_allocation.proofs.new_coroutine.Met as made-thm
 use Rattle.lent_forms.proofs.made_from.Key.{name as #lent-forms·made-from}
 use Rattle.lent_forms.proofs.made_from as f
 use Rattle.lent_forms.proofs.made_from.Statement as stated
@@ -268,4 +268,4 @@ made-from-spec 𝓤 H 𝓜 𝓖 𝓡 =
     entered 𝓤 H (tripleOf 𝓤 H (𝓖 .A) f.signature (f.spec 𝓤 H (𝓖 .A) (𝓜 .mem) (𝓡 .run)))
     (tables 𝓤 H 𝓜 𝓡 code.env .C) (tables 𝓤 H 𝓜 𝓡 code.env .Λ) #lent-forms·made-from code.function (code.unfolded 𝓤 H 𝓜 𝓡)
     (made-from-meets 𝓤 H (𝓖 .A) (givenOf 𝓤 H 𝓜 𝓖) (𝓜 .mem) (𝓡 .run) (tablesOf 𝓤 H 𝓜 (tables 𝓤 H 𝓜 𝓡 code.env))
-    (cited 𝓤 H (MadeC 𝓤 H (𝓖 .A) (𝓜 .mem) (𝓡 .run)) 𝓜 𝓡 code.env #allocation·new-coroutine made-def.routine code.calls-allocation·new-coroutine (made-thm.met 𝓤 H 𝓜 𝓖 𝓡)))
+    (cited 𝓤 H (MadeC 𝓤 H (𝓖 .A) (𝓜 .mem) (𝓡 .run)) 𝓜 𝓡 code.env #allocation·new-coroutine made-def.routine code.calls-heap-allocation·new-coroutine (made-thm.met 𝓤 H 𝓜 𝓖 𝓡)))

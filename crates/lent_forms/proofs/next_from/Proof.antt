@@ -51,8 +51,8 @@ use Rattle.heap.specs.declared.Heap.{Heap}
 use Rattle.heap.specs.State.{State, state}
 use Rattle.heap.specs.Good.{Good}
 use Rattle.heap.specs.Promise.{Reads}
-use Rattle.collections.specs.Answers.{lentSeen}
-use Rattle.collections.specs.declared.Perhaps.{Perhaps}
+use Rattle.collections_maps.specs.Answers.{lentSeen}
+use Rattle.collections_growth.specs.declared.Perhaps.{Perhaps}
 use Rattle.lent_forms.specs.declared.Moved.{Moved}
 use Rattle.map_store.proofs.Cursor as T
 use Rattle.map_store.proofs.Cursor.Laws as T′
@@ -60,12 +60,12 @@ use Rattle.heap.proofs.Heap as P
 use Rattle.heap.proofs.Heap.Laws as P′
 use Rattle.lent_forms.proofs.Moved as S
 use Rattle.lent_forms.proofs.Moved.Laws as S′
-use Rattle.collections.proofs.Perhaps as N
-use Rattle.collections.proofs.Perhaps.Laws as N′
-use Rattle.collections.proofs.next as next
-use Rattle.collections.proofs.next.Symbol as next-def
-use Rattle.collections.proofs.next.Symbol.{name as #collections·next}
-use Rattle.collections.proofs.next.Met as next-thm
+use Rattle.collections_growth.proofs.Perhaps as N
+use Rattle.collections_growth.proofs.Perhaps.Laws as N′
+use Rattle.collections_maps.proofs.next as next
+use Rattle.collections_maps.proofs.next.Symbol as next-def
+use Rattle.collections_maps.proofs.next.Symbol.{name as #collections-maps·next}
+use Rattle.collections_maps.proofs.next.Met as next-thm
 use Rattle.lent_forms.proofs.next_from.Key.{name as #lent-forms·next-from}
 use Rattle.lent_forms.proofs.next_from as f
 use Rattle.lent_forms.proofs.next_from.Statement as stated
@@ -167,7 +167,7 @@ module _ {M : Type 1} (𝓤 : URA M) (H : MemHeap 𝓤) (A : Atoms 𝓤) (W : Gi
       nothing ! $ nothing ! $ fjoin ! $ nothing ! $ fjoin ! $ nothing ! $ fjoin ! $ nothing ! $ fjoin ! $ nothing ! $ fjoin ! $ nothing ! $ fjoin ! $ nothing ! $ fjoin ! $ nothing ! $ fjoin ! $ frame ! $
       owned ! S.the-row (Is S.the-row) (LL.makes S.the-type S′.the-plain 𝓤 H A) (both d r) _ is $ done !
 
-  module _ (C : Calls 𝓤 H) (Λ : Loops 𝓤 H) (fm : FmC 𝓤 H (W .laws) C) (known : Triple 𝓤 (C #collections·next) (NextC 𝓤 H A at-mem run)) where
+  module _ (C : Calls 𝓤 H) (Λ : Loops 𝓤 H) (fm : FmC 𝓤 H (W .laws) C) (known : Triple 𝓤 (C #collections-maps·next) (NextC 𝓤 H A at-mem run)) where
     walk : Is (ShrSlice (named 0) κ₀ u64) s₀ (vof s₀ ∷ []) → Is (ShrSlice (named 1) κ₁ u64) s₁ (vof s₁ ∷ []) → Is (ShrSlice (named 2) κ₂ u64) s₂ (vof s₂ ∷ []) → Is (ShrSlice (named 3) κ₃ u64) s₃ (vof s₃ ∷ []) → Is (ShrSlice (named 4) κ₄ u64) s₄ (vof s₄ ∷ [])
         → ent 𝓤 (onEntry 𝓤 H A f.signature (κ₀, (κ₁, (κ₂, (κ₃, (κ₄, tt))))) (q₀, (q₁, (q₂, (q₃, (q₄, tt))))) x at) (WpFn 𝓤 H C Λ code.function (hval h ∷ vof s₀ ∷ vof s₁ ∷ vof s₂ ∷ vof s₃ ∷ vof s₄ ∷ vint w64 n ∷ cval c ∷ []) Post)
     walk p₀ p₁ p₂ p₃ p₄ =
@@ -206,14 +206,14 @@ module _ {M : Type 1} (𝓤 : URA M) (H : MemHeap 𝓤) (A : Atoms 𝓤) (W : Gi
         keep ! (1 ∷ 2 ∷ 3 ∷ 4 ∷ 5 ∷ []) $ by ! (exits r (ws .1 .1 .1 .1 .1 .1 .1 .0) does (both-is (ws .1 .1 .1 .1 .1 .1 .1 .0) r isC (answer-is r u is))))))))))))))))))))))))
 
 module _ {M : Type 1} (𝓤 : URA M) (H : MemHeap 𝓤) (A : Atoms 𝓤) (W : Given 𝓤 H A) (mem : Memory → SProp 𝓤) (run : Routine → Fun 𝓤) where
-  next-from-walks : (C : Calls 𝓤 H) (Λ : Loops 𝓤 H) → FmC 𝓤 H (W .laws) C → Triple 𝓤 (C #collections·next) (NextC 𝓤 H A mem run) → Walks 𝓤 H A f.ended stayed (WpFn 𝓤 H C Λ code.function) (f.clauses 𝓤 H A mem run)
+  next-from-walks : (C : Calls 𝓤 H) (Λ : Loops 𝓤 H) → FmC 𝓤 H (W .laws) C → Triple 𝓤 (C #collections-maps·next) (NextC 𝓤 H A mem run) → Walks 𝓤 H A f.ended stayed (WpFn 𝓤 H C Λ code.function) (f.clauses 𝓤 H A mem run)
   next-from-walks C Λ fm known = walked 𝓤 H A f.ended stayed (f.clauses 𝓤 H A mem run) (WpFn 𝓤 H C Λ code.function)
       (λ κs. (LL.vals P.the-type P′.the-laws, (slice-vals, (slice-vals, (slice-vals, (slice-vals, (slice-vals, (uint-vals w64, (LL.vals T.the-type T′.the-laws, tt))))))))) (λ κs. (LL.tells P.the-type P′.the-laws, (shr-slice-tells (named 0) (κs .0) u64, (shr-slice-tells (named 1) (κs .1 .0) u64, (shr-slice-tells (named 2) (κs .1 .1 .0) u64, (shr-slice-tells (named 3) (κs .1 .1 .1 .0) u64, (shr-slice-tells (named 4) (κs .1 .1 .1 .1 .0) u64, (uint-tells w64, (LL.tells T.the-type T′.the-laws, tt)))))))))
       (λ κs qs bounds a g are. needs 𝓤 (Good (state (a .0) (a .1 .0 .now) (a .1 .1 .0 .now) (a .1 .1 .1 .0 .now) (a .1 .1 .1 .1 .0 .now) (a .1 .1 .1 .1 .1 .0 .now))) _ (λ good.
       walk 𝓤 H A W mem run (κs .0) (κs .1 .0) (κs .1 .1 .0) (κs .1 .1 .1 .0) (κs .1 .1 .1 .1 .0) (qs .0) (qs .1 .0) (qs .1 .1 .0) (qs .1 .1 .1 .0) (qs .1 .1 .1 .1 .0) (a .0) (a .1 .0) (a .1 .1 .0) (a .1 .1 .1 .0) (a .1 .1 .1 .1 .0) (a .1 .1 .1 .1 .1 .0) (a .1 .1 .1 .1 .1 .1 .0) (a .1 .1 .1 .1 .1 .1 .1 .0)
       (are .0) (are .1 .1 .1 .1 .1 .1 .0) (are .1 .1 .1 .1 .1 .1 .1 .0) good C Λ fm known (are .1 .0) (are .1 .1 .0) (are .1 .1 .1 .0) (are .1 .1 .1 .1 .0) (are .1 .1 .1 .1 .1 .0)))
 
-next-from-meets : {M : Type 1} (𝓤 : URA M) (H : MemHeap 𝓤) (A : Atoms 𝓤) → Given 𝓤 H A → (mem : Memory → SProp 𝓤) (run : Routine → Fun 𝓤) (𝓣 : Tables 𝓤 H) → Triple 𝓤 (𝓣 .C #collections·next) (NextC 𝓤 H A mem run)
+next-from-meets : {M : Type 1} (𝓤 : URA M) (H : MemHeap 𝓤) (A : Atoms 𝓤) → Given 𝓤 H A → (mem : Memory → SProp 𝓤) (run : Routine → Fun 𝓤) (𝓣 : Tables 𝓤 H) → Triple 𝓤 (𝓣 .C #collections-maps·next) (NextC 𝓤 H A mem run)
     → Meets 𝓤 H A f.signature (WpFn 𝓤 H (𝓣 .C) (𝓣 .Λ) code.function) (f.spec 𝓤 H A mem run)
 next-from-meets 𝓤 H A W mem run 𝓣 known =
     walk-meets 𝓤 H A f.ended stayed W
@@ -226,4 +226,4 @@ next-from-spec 𝓤 H 𝓜 𝓖 𝓡 =
     entered 𝓤 H (tripleOf 𝓤 H (𝓖 .A) f.signature (f.spec 𝓤 H (𝓖 .A) (𝓜 .mem) (𝓡 .run)))
     (tables 𝓤 H 𝓜 𝓡 code.env .C) (tables 𝓤 H 𝓜 𝓡 code.env .Λ) #lent-forms·next-from code.function (code.unfolded 𝓤 H 𝓜 𝓡)
     (next-from-meets 𝓤 H (𝓖 .A) (givenOf 𝓤 H 𝓜 𝓖) (𝓜 .mem) (𝓡 .run) (tablesOf 𝓤 H 𝓜 (tables 𝓤 H 𝓜 𝓡 code.env))
-    (cited 𝓤 H (NextC 𝓤 H (𝓖 .A) (𝓜 .mem) (𝓡 .run)) 𝓜 𝓡 code.env #collections·next next-def.routine code.calls-collections·next (next-thm.met 𝓤 H 𝓜 𝓖 𝓡)))
+    (cited 𝓤 H (NextC 𝓤 H (𝓖 .A) (𝓜 .mem) (𝓡 .run)) 𝓜 𝓡 code.env #collections-maps·next next-def.routine code.calls-collections-maps·next (next-thm.met 𝓤 H 𝓜 𝓖 𝓡)))

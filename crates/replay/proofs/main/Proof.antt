@@ -1,4 +1,3 @@
-use native.Mathlib.Omega.{arith}
 use mathlib.Core.Path.{sym}
 use lib.Seq.{length-take-le}
 use borrow.Author.Needs.{needs}
@@ -18,10 +17,12 @@ array-share-prefix-input : tie.Need-array-share-prefix-input
 array-share-prefix-input c = search needs
 
 slice-aggregate-run : tie.Need-slice-aggregate-run
-slice-aggregate-run c = sym (length-take-le (c .before .before .read-script .result) ((c .before .before .read-script .last .0)) ((c .before .before .read-script .ensures .1)))
+slice-aggregate-run c =
+    let at : tie.After-read-script = search in
+    sym (length-take-le (at .read-script .result) (at .read-script .last .0) (at .read-script .ensures .1))
 
 run-requires : tie.Need-run-requires
-run-requires c κs = (omega (arith, length-take-le (c .before .before .read-script .result) ((c .before .before .read-script .last .0)) ((c .before .before .read-script .ensures .1)), (c .before .before .read-script .ensures)), omega (arith, length-take-le (c .before .before .read-script .result) ((c .before .before .read-script .last .0)) ((c .before .before .read-script .ensures .1)), (c .before .before .read-script .ensures), (c .before .before .read-script .kept .0), (c .before .before .before .before .script-buffer .ensures)))
+run-requires c κs = search needs
 
 returns : tie.Need-returns
 returns c = search needs

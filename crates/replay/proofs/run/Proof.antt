@@ -1,8 +1,6 @@
+use Rattle.replay.proofs.StartLaws.{started-ready}
 use native.Mathlib.Omega.{arith}
-use Prim.Native.Nat.{ℕ}
-use lib.ListN.{length-replicate}
 use borrow.Author.Needs.{needs}
-use Rattle.replaying.proofs.CallLaws.{started-ready}
 use Rattle.replay.proofs.run.Statement.{statement}
 use Rattle.replay.proofs.run.Tie as tie
 
@@ -36,11 +34,29 @@ slice-aggregate-start-7 c = search needs
 slice-aggregate-start-8 : tie.Need-slice-aggregate-start-8
 slice-aggregate-start-8 c = search needs
 
+slice-aggregate-start-9 : tie.Need-slice-aggregate-start-9
+slice-aggregate-start-9 c = search needs
+
+slice-aggregate-start-10 : tie.Need-slice-aggregate-start-10
+slice-aggregate-start-10 c = search needs
+
+slice-aggregate-start-11 : tie.Need-slice-aggregate-start-11
+slice-aggregate-start-11 c = search needs
+
+slice-aggregate-start-12 : tie.Need-slice-aggregate-start-12
+slice-aggregate-start-12 c = search needs
+
+slice-aggregate-start-13 : tie.Need-slice-aggregate-start-13
+slice-aggregate-start-13 c = search needs
+
 start-requires : tie.Need-start-requires
 start-requires c κs = search needs
 
 enum-told : tie.Need-enum-told
 enum-told c = search needs
+
+enum-told-2 : tie.Need-enum-told-2
+enum-told-2 c = search needs
 
 enum-known-p : tie.Need-enum-known-p
 enum-known-p c = search needs
@@ -76,22 +92,34 @@ slice-aggregate-play-10 : tie.Need-slice-aggregate-play-10
 slice-aggregate-play-10 c = search needs
 
 slice-aggregate-play-11 : tie.Need-slice-aggregate-play-11
-slice-aggregate-play-11 c = (c .before .before .before .before .before .before .before .before .before .before .before .before .before .before .before .before .before .before .before .before .before .before .before .before .before .before .before .script-buffer .ensures)
+slice-aggregate-play-11 c =
+    let at-start : tie.After-start = search in
+    let at : tie.After-script-buffer = search in
+    at .script-buffer .ensures
 
 slice-aggregate-play-12 : tie.Need-slice-aggregate-play-12
 slice-aggregate-play-12 c = search needs
 
 slice-aggregate-play-13 : tie.Need-slice-aggregate-play-13
-slice-aggregate-play-13 c = (c .before .before .before .before .before .before .before .before .before .before .before .before .before .before .before .before .before .before .before .before .before .before .before .before .before .before .before .before .line-buffer .ensures)
+slice-aggregate-play-13 c =
+    let at-start : tie.After-start = search in
+    let at : tie.After-line-buffer = search in
+    at .line-buffer .ensures
 
 play-requires : tie.Need-play-requires
-play-requires c κs = (started-ready (c .before .before .before .before .before .before .before .before .before .before .before .before .before .before .before .before .before .before .before .start .ensures) (c .before .before .before .before .before .before .before .before .before .before .before .before .before .before .p .given .1) (omega (arith, length-replicate {A = ℕ} 65536 0)) (omega (arith, (c .before .before .before .before .before .before .before .before .before .before .before .before .before .before .before .before .before .before .before .before .before .before .before .before .before .before .before .before .before .before .before .pre))), ((omega (arith, (c .before .before .before .before .before .before .before .before .before .before .before .before .before .before .before .before .before .before .before .before .before .before .before .before .before .before .before .before .before .before .before .pre), length-replicate {A = ℕ} 131073 0), omega (arith, length-replicate {A = ℕ} 64 0), omega (arith, length-replicate {A = ℕ} 65536 0)), (length-replicate {A = ℕ} 65536 0, omega (arith, (c .before .before .before .before .before .before .before .before .before .before .before .before .before .before .before .before .before .before .before .before .before .before .before .before .before .before .before .before .before .script-buffer .ensures)), omega (arith, (c .before .before .before .before .before .before .before .before .before .before .before .before .before .before .before .before .before .before .before .before .before .before .before .before .before .before .before .before .before .before .before .pre), (c .before .before .before .before .before .before .before .before .before .before .before .before .before .before .before .before .before .before .before .before .before .before .before .before .before .before .before .before .before .script-buffer .ensures)), omega (arith, (c .before .before .before .before .before .before .before .before .before .before .before .before .before .before .before .before .before .before .before .before .before .before .before .before .before .before .before .before .line-buffer .ensures)))))
+play-requires c κs =
+    let at-p : tie.After-p = search in
+    let at-start : tie.After-start = search in
+    started-ready (at-start .start .ensures) (at-p .p .given .1)
 
 returns : tie.Need-returns
 returns c = search needs
 
 returns-2 : tie.Need-returns-2
 returns-2 c = search needs
+
+returns-3 : tie.Need-returns-3
+returns-3 c = search needs
 
 pub run-spec : {M : Type 1} → statement M
 run-spec =
@@ -107,8 +135,14 @@ run-spec =
     slice-aggregate-start-6
     slice-aggregate-start-7
     slice-aggregate-start-8
+    slice-aggregate-start-9
+    slice-aggregate-start-10
+    slice-aggregate-start-11
+    slice-aggregate-start-12
+    slice-aggregate-start-13
     start-requires
     enum-told
+    enum-told-2
     enum-known-p
     slice-aggregate-play
     slice-aggregate-play-2
@@ -125,4 +159,5 @@ run-spec =
     slice-aggregate-play-13
     play-requires
     returns
-    returns-2)
+    returns-2
+    returns-3)

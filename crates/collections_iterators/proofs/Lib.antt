@@ -1,0 +1,3 @@
+pub mod IteratorLaws
+pub mod VisitLaws
+pub mod BeginLaws

@@ -1,0 +1,31 @@
+-- `collections_maps::changes::remove_at` meets its contract. Assumes nothing.
+use borrow.Author.Needs.{needs}
+use Rattle.collections_maps.proofs.changes.remove_at.Statement.{statement}
+use Rattle.collections_maps.proofs.changes.remove_at.Tie as tie
+
+remove-at-change-requires : tie.Need-remove-at-change-requires
+remove-at-change-requires c κs = search needs
+
+settle-requires : tie.Need-settle-requires
+settle-requires c κs = search needs
+
+same-length : tie.Need-same-length
+same-length c = search needs
+
+same-length-2 : tie.Need-same-length-2
+same-length-2 c = search needs
+
+same-length-3 : tie.Need-same-length-3
+same-length-3 c = search needs
+
+same-length-4 : tie.Need-same-length-4
+same-length-4 c = search needs
+
+returns : tie.Need-returns
+returns c =
+    let at-settle : tie.After-settle = search in
+    let at-remove-at-change : tie.After-remove-at-change = search in
+    rw (at-settle .settle .ensures .0, at-settle .settle .ensures .1) (at-remove-at-change .remove-at-change .ensures)
+
+pub remove-at-spec : {M : Type 1} → statement M
+remove-at-spec = tie.close (tie.spec remove-at-change-requires settle-requires same-length same-length-2 same-length-3 same-length-4 returns)

@@ -1,2 +1,0 @@
-pub mod LendLaws
-pub mod RunLaws

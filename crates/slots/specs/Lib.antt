@@ -1,3 +1,0 @@
-pub mod Header
-pub mod Lookup
-pub mod FreeList
