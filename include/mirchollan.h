@@ -32,16 +32,17 @@ extern "C" {
 /* The refusals, by their numbers. */
 enum {
     MIRCHOLLAN_ACCEPTED = 0,
-    MIRCHOLLAN_REACHES_NOTHING = 1, /* nil, or a reference to an object that is no longer there */
-    MIRCHOLLAN_OTHER_KIND = 2,      /* an object of another kind, or a word neither nil nor reference */
-    MIRCHOLLAN_OUTSIDE = 3,         /* a position outside, pop of an empty array, a negative length */
-    MIRCHOLLAN_BAD_TYPE = 4,        /* a type above 2, or a state above 4 */
+    MIRCHOLLAN_NIL_TARGET = 1, /* a call on nil */
+    MIRCHOLLAN_OTHER_KIND = 2, /* an object of another kind, or a word neither nil nor reference */
+    MIRCHOLLAN_OUTSIDE = 3,    /* a position outside, pop of an empty array, a negative length */
+    MIRCHOLLAN_BAD_TYPE = 4,   /* a type above 2, or a state above 4 */
     MIRCHOLLAN_OVER_BUDGET = 5,
     MIRCHOLLAN_NO_SLOT = 6,
     MIRCHOLLAN_NO_CELLS = 7,
     MIRCHOLLAN_TOO_SHORT = 8, /* a lent list or buffer that is too short */
     MIRCHOLLAN_SPENT = 9,     /* a map's 2^32 sequence numbers are spent */
-    MIRCHOLLAN_BAD_OPENING = 10
+    MIRCHOLLAN_BAD_OPENING = 10,
+    MIRCHOLLAN_DEAD_REFERENCE = 11 /* a reference to an object that is not there, or no longer */
 };
 
 /* Types of items, keys, values and cells: 1 and 2 are traced. */
@@ -58,6 +59,9 @@ enum {
 
 /* The nil word. */
 #define MIRCHOLLAN_NIL UINT64_C(0)
+
+/* What mirchollan_get and mirchollan_kind_of answer of a dead reference. */
+#define MIRCHOLLAN_DEAD UINT64_C(15)
 
 /* The words that a buffer needs for n slots; the table needs MIRCHOLLAN_TABLE. */
 #define MIRCHOLLAN_SLOTS(n) (8 * (size_t)(n))
@@ -667,7 +671,7 @@ static inline uint64_t mirchollan_new_function(mirchollan_heap *h, uint64_t impo
     return mch_new_function(MIRCHOLLAN_LENT(h), import, number, captures, captures_length, answer);
 }
 
-/* An iterator over an array or a map. Refused: 1, 2, 5, 6. Answers word: the reference. */
+/* An iterator over an array or a map. Refused: 1, 11, 2, 5, 6. Answers word: the reference. */
 static inline uint64_t mirchollan_new_iter(mirchollan_heap *h, uint64_t source, mirchollan_answer *answer)
 {
     return mch_new_iter(MIRCHOLLAN_LENT(h), source, answer);
@@ -684,8 +688,9 @@ static inline uint64_t mirchollan_new_coroutine(mirchollan_heap *h, const mircho
 
 /* ---- readings ---- */
 
-/* The row of the object that a word reaches, 0 for none: 1 string, 2 integer, 3 cell, 4 error, 5 box, 6 array, 7
-   map, 8 struct, 9 function, 10 iterator, 11 coroutine. Refused: never. Answers word. */
+/* The row of the object that a word reaches: 1 string, 2 integer, 3 cell, 4 error, 5 box, 6 array, 7 map, 8 struct, 9
+   function, 10 iterator, 11 coroutine; MIRCHOLLAN_DEAD for a dead reference, 0 for any other word. Refused: never.
+   Answers word. */
 static inline uint64_t mirchollan_get(const mirchollan_heap *h, uint64_t word, mirchollan_answer *answer)
 {
     return mch_get(MIRCHOLLAN_LENT(h), word, answer);
@@ -698,19 +703,19 @@ static inline uint64_t mirchollan_deref(const mirchollan_heap *h, uint64_t word,
 }
 
 /* The number of a word's kind. Refused: never. Answers word: 0 nil, an object's row 1 to 11, 12 truth, 13 float,
-   14 character; integer 2. */
+   14 character, MIRCHOLLAN_DEAD dead reference; integer 2. */
 static inline uint64_t mirchollan_kind_of(const mirchollan_heap *h, uint64_t word, mirchollan_answer *answer)
 {
     return mch_kind_of(MIRCHOLLAN_LENT(h), word, answer);
 }
 
-/* The length of a string in bytes. Refused: 1, 2. Answers word. */
+/* The length of a string in bytes. Refused: 1, 11, 2. Answers word. */
 static inline uint64_t mirchollan_string_length(const mirchollan_heap *h, uint64_t word, mirchollan_answer *answer)
 {
     return mch_string_length(MIRCHOLLAN_LENT(h), word, answer);
 }
 
-/* A string's bytes, into the buffer's first places; 8 where the buffer is shorter. Refused: 1, 2, 8. Answers word:
+/* A string's bytes, into the buffer's first places; 8 where the buffer is shorter. Refused: 1, 11, 2, 8. Answers word:
    the length. */
 static inline uint64_t mirchollan_read_string(const mirchollan_heap *h, uint64_t word, uint8_t *buffer,
     size_t buffer_length, mirchollan_answer *answer)
@@ -718,175 +723,175 @@ static inline uint64_t mirchollan_read_string(const mirchollan_heap *h, uint64_t
     return mch_read_string(MIRCHOLLAN_LENT(h), word, buffer, buffer_length, answer);
 }
 
-/* An integer object's number. Refused: 1, 2. Answers word: the number, two's complement. */
+/* An integer object's number. Refused: 1, 11, 2. Answers word: the number, two's complement. */
 static inline uint64_t mirchollan_read_integer(const mirchollan_heap *h, uint64_t word, mirchollan_answer *answer)
 {
     return mch_read_integer(MIRCHOLLAN_LENT(h), word, answer);
 }
 
-/* A cell's word. Refused: 1, 2. Answers word. */
+/* A cell's word. Refused: 1, 11, 2. Answers word. */
 static inline uint64_t mirchollan_read_cell(const mirchollan_heap *h, uint64_t word, mirchollan_answer *answer)
 {
     return mch_read_cell(MIRCHOLLAN_LENT(h), word, answer);
 }
 
-/* A cell's type. Refused: 1, 2. Answers word. */
+/* A cell's type. Refused: 1, 11, 2. Answers word. */
 static inline uint64_t mirchollan_cell_type(const mirchollan_heap *h, uint64_t word, mirchollan_answer *answer)
 {
     return mch_cell_type(MIRCHOLLAN_LENT(h), word, answer);
 }
 
-/* An error's kind. Refused: 1, 2. Answers word. */
+/* An error's kind. Refused: 1, 11, 2. Answers word. */
 static inline uint64_t mirchollan_error_kind(const mirchollan_heap *h, uint64_t word, mirchollan_answer *answer)
 {
     return mch_error_kind(MIRCHOLLAN_LENT(h), word, answer);
 }
 
-/* An error's word. Refused: 1, 2. Answers word. */
+/* An error's word. Refused: 1, 11, 2. Answers word. */
 static inline uint64_t mirchollan_error_word(const mirchollan_heap *h, uint64_t word, mirchollan_answer *answer)
 {
     return mch_error_word(MIRCHOLLAN_LENT(h), word, answer);
 }
 
-/* A box's word. Refused: 1, 2. Answers word. */
+/* A box's word. Refused: 1, 11, 2. Answers word. */
 static inline uint64_t mirchollan_read_box(const mirchollan_heap *h, uint64_t word, mirchollan_answer *answer)
 {
     return mch_read_box(MIRCHOLLAN_LENT(h), word, answer);
 }
 
-/* The type of an array's items. Refused: 1, 2. Answers word. */
+/* The type of an array's items. Refused: 1, 11, 2. Answers word. */
 static inline uint64_t mirchollan_array_type(const mirchollan_heap *h, uint64_t word, mirchollan_answer *answer)
 {
     return mch_array_type(MIRCHOLLAN_LENT(h), word, answer);
 }
 
-/* The length of an array. Refused: 1, 2. Answers word. */
+/* The length of an array. Refused: 1, 11, 2. Answers word. */
 static inline uint64_t mirchollan_array_length(const mirchollan_heap *h, uint64_t word, mirchollan_answer *answer)
 {
     return mch_array_length(MIRCHOLLAN_LENT(h), word, answer);
 }
 
-/* The capacity of an array. Refused: 1, 2. Answers word. */
+/* The capacity of an array. Refused: 1, 11, 2. Answers word. */
 static inline uint64_t mirchollan_array_capacity(const mirchollan_heap *h, uint64_t word, mirchollan_answer *answer)
 {
     return mch_array_capacity(MIRCHOLLAN_LENT(h), word, answer);
 }
 
-/* An item of an array, as it was stored. Refused: 1, 2, 3. Answers word. */
+/* An item of an array, as it was stored. Refused: 1, 11, 2, 3. Answers word. */
 static inline uint64_t mirchollan_read_item(const mirchollan_heap *h, uint64_t word, uint64_t index,
     mirchollan_answer *answer)
 {
     return mch_read_item(MIRCHOLLAN_LENT(h), word, index, answer);
 }
 
-/* A struct's type. Refused: 1, 2. Answers word. */
+/* A struct's type. Refused: 1, 11, 2. Answers word. */
 static inline uint64_t mirchollan_struct_number(const mirchollan_heap *h, uint64_t word, mirchollan_answer *answer)
 {
     return mch_struct_number(MIRCHOLLAN_LENT(h), word, answer);
 }
 
-/* How many fields a struct has. Refused: 1, 2. Answers word. */
+/* How many fields a struct has. Refused: 1, 11, 2. Answers word. */
 static inline uint64_t mirchollan_field_count(const mirchollan_heap *h, uint64_t word, mirchollan_answer *answer)
 {
     return mch_field_count(MIRCHOLLAN_LENT(h), word, answer);
 }
 
-/* A field of a struct. Refused: 1, 2, 3. Answers word. */
+/* A field of a struct. Refused: 1, 11, 2, 3. Answers word. */
 static inline uint64_t mirchollan_read_field(const mirchollan_heap *h, uint64_t word, uint64_t index,
     mirchollan_answer *answer)
 {
     return mch_read_field(MIRCHOLLAN_LENT(h), word, index, answer);
 }
 
-/* Whether a function is an import. Refused: 1, 2. Answers word: 1 yes, 0 no. */
+/* Whether a function is an import. Refused: 1, 11, 2. Answers word: 1 yes, 0 no. */
 static inline uint64_t mirchollan_is_import(const mirchollan_heap *h, uint64_t word, mirchollan_answer *answer)
 {
     return mch_is_import(MIRCHOLLAN_LENT(h), word, answer);
 }
 
-/* A function's number. Refused: 1, 2. Answers word. */
+/* A function's number. Refused: 1, 11, 2. Answers word. */
 static inline uint64_t mirchollan_function_number(const mirchollan_heap *h, uint64_t word, mirchollan_answer *answer)
 {
     return mch_function_number(MIRCHOLLAN_LENT(h), word, answer);
 }
 
-/* How many captures a function has. Refused: 1, 2. Answers word. */
+/* How many captures a function has. Refused: 1, 11, 2. Answers word. */
 static inline uint64_t mirchollan_capture_count(const mirchollan_heap *h, uint64_t word, mirchollan_answer *answer)
 {
     return mch_capture_count(MIRCHOLLAN_LENT(h), word, answer);
 }
 
-/* A capture of a function. Refused: 1, 2, 3. Answers word. */
+/* A capture of a function. Refused: 1, 11, 2, 3. Answers word. */
 static inline uint64_t mirchollan_read_capture(const mirchollan_heap *h, uint64_t word, uint64_t index,
     mirchollan_answer *answer)
 {
     return mch_read_capture(MIRCHOLLAN_LENT(h), word, index, answer);
 }
 
-/* A coroutine's state. Refused: 1, 2. Answers word. */
+/* A coroutine's state. Refused: 1, 11, 2. Answers word. */
 static inline uint64_t mirchollan_read_state(const mirchollan_heap *h, uint64_t word, mirchollan_answer *answer)
 {
     return mch_read_state(MIRCHOLLAN_LENT(h), word, answer);
 }
 
-/* A coroutine's payload. Refused: 1, 2. Answers word. */
+/* A coroutine's payload. Refused: 1, 11, 2. Answers word. */
 static inline uint64_t mirchollan_read_payload(const mirchollan_heap *h, uint64_t word, mirchollan_answer *answer)
 {
     return mch_read_payload(MIRCHOLLAN_LENT(h), word, answer);
 }
 
-/* A coroutine's key. Refused: 1, 2. Answers word. */
+/* A coroutine's key. Refused: 1, 11, 2. Answers word. */
 static inline uint64_t mirchollan_read_key(const mirchollan_heap *h, uint64_t word, mirchollan_answer *answer)
 {
     return mch_read_key(MIRCHOLLAN_LENT(h), word, answer);
 }
 
-/* A coroutine's result. Refused: 1, 2. Answers word. */
+/* A coroutine's result. Refused: 1, 11, 2. Answers word. */
 static inline uint64_t mirchollan_read_result(const mirchollan_heap *h, uint64_t word, mirchollan_answer *answer)
 {
     return mch_read_result(MIRCHOLLAN_LENT(h), word, answer);
 }
 
-/* A coroutine's signal. Refused: 1, 2. Answers word. */
+/* A coroutine's signal. Refused: 1, 11, 2. Answers word. */
 static inline uint64_t mirchollan_read_signal(const mirchollan_heap *h, uint64_t word, mirchollan_answer *answer)
 {
     return mch_read_signal(MIRCHOLLAN_LENT(h), word, answer);
 }
 
-/* A coroutine's sequence number. Refused: 1, 2. Answers word. */
+/* A coroutine's sequence number. Refused: 1, 11, 2. Answers word. */
 static inline uint64_t mirchollan_coroutine_sequence(const mirchollan_heap *h, uint64_t word,
     mirchollan_answer *answer)
 {
     return mch_coroutine_sequence(MIRCHOLLAN_LENT(h), word, answer);
 }
 
-/* Whether a coroutine is finalized. Refused: 1, 2. Answers word: 1 yes, 0 no. */
+/* Whether a coroutine is finalized. Refused: 1, 11, 2. Answers word: 1 yes, 0 no. */
 static inline uint64_t mirchollan_coroutine_finalized(const mirchollan_heap *h, uint64_t word,
     mirchollan_answer *answer)
 {
     return mch_coroutine_finalized(MIRCHOLLAN_LENT(h), word, answer);
 }
 
-/* How many registers a coroutine has. Refused: 1, 2. Answers word. */
+/* How many registers a coroutine has. Refused: 1, 11, 2. Answers word. */
 static inline uint64_t mirchollan_register_count(const mirchollan_heap *h, uint64_t word, mirchollan_answer *answer)
 {
     return mch_register_count(MIRCHOLLAN_LENT(h), word, answer);
 }
 
-/* How many frames a coroutine has. Refused: 1, 2. Answers word. */
+/* How many frames a coroutine has. Refused: 1, 11, 2. Answers word. */
 static inline uint64_t mirchollan_frame_count(const mirchollan_heap *h, uint64_t word, mirchollan_answer *answer)
 {
     return mch_frame_count(MIRCHOLLAN_LENT(h), word, answer);
 }
 
-/* A frame of a coroutine. Refused: 1, 2, 3. Answers word: function, x: counter, y: base, z: closure. */
+/* A frame of a coroutine. Refused: 1, 11, 2, 3. Answers word: function, x: counter, y: base, z: closure. */
 static inline uint64_t mirchollan_read_frame(const mirchollan_heap *h, uint64_t word, uint64_t index,
     mirchollan_answer *answer)
 {
     return mch_read_frame(MIRCHOLLAN_LENT(h), word, index, answer);
 }
 
-/* A register of a coroutine. Refused: 1, 2, 3. Answers word. */
+/* A register of a coroutine. Refused: 1, 11, 2, 3. Answers word. */
 static inline uint64_t mirchollan_read_register(const mirchollan_heap *h, uint64_t word, uint64_t index,
     mirchollan_answer *answer)
 {
@@ -895,89 +900,89 @@ static inline uint64_t mirchollan_read_register(const mirchollan_heap *h, uint64
 
 /* ---- stores, and arrays that grow and shrink ---- */
 
-/* A new word for a cell. Refused: 1, 2. Answers nothing. */
+/* A new word for a cell. Refused: 1, 11, 2. Answers nothing. */
 static inline uint64_t mirchollan_store_cell(mirchollan_heap *h, uint64_t word, uint64_t value,
     mirchollan_answer *answer)
 {
     return mch_store_cell(MIRCHOLLAN_LENT(h), word, value, answer);
 }
 
-/* A new word for a box. Refused: 1, 2. Answers nothing. */
+/* A new word for a box. Refused: 1, 11, 2. Answers nothing. */
 static inline uint64_t mirchollan_store_box(mirchollan_heap *h, uint64_t word, uint64_t value,
     mirchollan_answer *answer)
 {
     return mch_store_box(MIRCHOLLAN_LENT(h), word, value, answer);
 }
 
-/* A new item of an array; outside the length nothing changes. Refused: 1, 2, 5. Answers nothing. */
+/* A new item of an array; outside the length nothing changes. Refused: 1, 11, 2, 5. Answers nothing. */
 static inline uint64_t mirchollan_store_item(mirchollan_heap *h, uint64_t word, uint64_t index, uint64_t value,
     mirchollan_answer *answer)
 {
     return mch_store_item(MIRCHOLLAN_LENT(h), word, index, value, answer);
 }
 
-/* An item behind the last of an array. Refused: 1, 2, 5, 7. Answers nothing. */
+/* An item behind the last of an array. Refused: 1, 11, 2, 5, 7. Answers nothing. */
 static inline uint64_t mirchollan_push(mirchollan_heap *h, uint64_t word, uint64_t value, mirchollan_answer *answer)
 {
     return mch_push(MIRCHOLLAN_LENT(h), word, value, answer);
 }
 
-/* The last item of an array, taken off. Refused: 1, 2, 3, 5. Answers word: the item. */
+/* The last item of an array, taken off. Refused: 1, 11, 2, 3, 5. Answers word: the item. */
 static inline uint64_t mirchollan_pop(mirchollan_heap *h, uint64_t word, mirchollan_answer *answer)
 {
     return mch_pop(MIRCHOLLAN_LENT(h), word, answer);
 }
 
-/* A new word for a field of a struct. Refused: 1, 2, 3. Answers nothing. */
+/* A new word for a field of a struct. Refused: 1, 11, 2, 3. Answers nothing. */
 static inline uint64_t mirchollan_store_field(mirchollan_heap *h, uint64_t word, uint64_t index, uint64_t value,
     mirchollan_answer *answer)
 {
     return mch_store_field(MIRCHOLLAN_LENT(h), word, index, value, answer);
 }
 
-/* A new word for a capture of a function. Refused: 1, 2, 3. Answers nothing. */
+/* A new word for a capture of a function. Refused: 1, 11, 2, 3. Answers nothing. */
 static inline uint64_t mirchollan_store_capture(mirchollan_heap *h, uint64_t word, uint64_t index, uint64_t value,
     mirchollan_answer *answer)
 {
     return mch_store_capture(MIRCHOLLAN_LENT(h), word, index, value, answer);
 }
 
-/* A new word for a register of a coroutine. Refused: 1, 2, 3. Answers nothing. */
+/* A new word for a register of a coroutine. Refused: 1, 11, 2, 3. Answers nothing. */
 static inline uint64_t mirchollan_store_register(mirchollan_heap *h, uint64_t word, uint64_t index, uint64_t value,
     mirchollan_answer *answer)
 {
     return mch_store_register(MIRCHOLLAN_LENT(h), word, index, value, answer);
 }
 
-/* A new payload for a coroutine. Refused: 1, 2. Answers nothing. */
+/* A new payload for a coroutine. Refused: 1, 11, 2. Answers nothing. */
 static inline uint64_t mirchollan_store_payload(mirchollan_heap *h, uint64_t word, uint64_t value,
     mirchollan_answer *answer)
 {
     return mch_store_payload(MIRCHOLLAN_LENT(h), word, value, answer);
 }
 
-/* A new key for a coroutine. Refused: 1, 2. Answers nothing. */
+/* A new key for a coroutine. Refused: 1, 11, 2. Answers nothing. */
 static inline uint64_t mirchollan_store_key(mirchollan_heap *h, uint64_t word, uint64_t value,
     mirchollan_answer *answer)
 {
     return mch_store_key(MIRCHOLLAN_LENT(h), word, value, answer);
 }
 
-/* A new result for a coroutine. Refused: 1, 2. Answers nothing. */
+/* A new result for a coroutine. Refused: 1, 11, 2. Answers nothing. */
 static inline uint64_t mirchollan_store_result(mirchollan_heap *h, uint64_t word, uint64_t value,
     mirchollan_answer *answer)
 {
     return mch_store_result(MIRCHOLLAN_LENT(h), word, value, answer);
 }
 
-/* A new signal for a coroutine. Refused: 1, 2. Answers nothing. */
+/* A new signal for a coroutine. Refused: 1, 11, 2. Answers nothing. */
 static inline uint64_t mirchollan_store_signal(mirchollan_heap *h, uint64_t word, uint64_t value,
     mirchollan_answer *answer)
 {
     return mch_store_signal(MIRCHOLLAN_LENT(h), word, value, answer);
 }
 
-/* A new state for a coroutine. Refused: 4, 1, 2. Answers nothing. */
+/* A new state for a coroutine. Refused: 4, 1, 11, 2. Answers nothing. */
 static inline uint64_t mirchollan_set_state(mirchollan_heap *h, uint64_t word, uint64_t s, mirchollan_answer *answer)
 {
     return mch_set_state(MIRCHOLLAN_LENT(h), word, s, answer);
@@ -985,7 +990,7 @@ static inline uint64_t mirchollan_set_state(mirchollan_heap *h, uint64_t word, u
 
 /* ---- maps and iterators ---- */
 
-/* The value of a key: overwritten where the key is found, else an entry is added. Refused: 1, 2, 9, 5, 7. Answers
+/* The value of a key: overwritten where the key is found, else an entry is added. Refused: 1, 11, 2, 9, 5, 7. Answers
    nothing. */
 static inline uint64_t mirchollan_put(mirchollan_heap *h, uint64_t word, uint64_t hash, uint64_t key, uint64_t value,
     mirchollan_answer *answer)
@@ -993,14 +998,14 @@ static inline uint64_t mirchollan_put(mirchollan_heap *h, uint64_t word, uint64_
     return mch_put(MIRCHOLLAN_LENT(h), word, hash, key, value, answer);
 }
 
-/* An entry added, whatever is there. Refused: 1, 2, 9, 5, 7. Answers nothing. */
+/* An entry added, whatever is there. Refused: 1, 11, 2, 9, 5, 7. Answers nothing. */
 static inline uint64_t mirchollan_insert_entry(mirchollan_heap *h, uint64_t word, uint64_t hash, uint64_t key,
     uint64_t value, mirchollan_answer *answer)
 {
     return mch_insert_entry(MIRCHOLLAN_LENT(h), word, hash, key, value, answer);
 }
 
-/* The position of a key: of an entry with this hash and key word. Refused: 1, 2. Answers x: 1 where the key is
+/* The position of a key: of an entry with this hash and key word. Refused: 1, 11, 2. Answers x: 1 where the key is
    there, word: its position. */
 static inline uint64_t mirchollan_find(const mirchollan_heap *h, uint64_t word, uint64_t hash, uint64_t key,
     mirchollan_answer *answer)
@@ -1008,21 +1013,21 @@ static inline uint64_t mirchollan_find(const mirchollan_heap *h, uint64_t word, 
     return mch_find(MIRCHOLLAN_LENT(h), word, hash, key, answer);
 }
 
-/* The entry of a key removed. Refused: 1, 2, 7. Answers nothing. */
+/* The entry of a key removed. Refused: 1, 11, 2, 7. Answers nothing. */
 static inline uint64_t mirchollan_remove(mirchollan_heap *h, uint64_t word, uint64_t hash, uint64_t key,
     mirchollan_answer *answer)
 {
     return mch_remove(MIRCHOLLAN_LENT(h), word, hash, key, answer);
 }
 
-/* The entry at a position removed. Refused: 1, 2, 7. Answers nothing. */
+/* The entry at a position removed. Refused: 1, 11, 2, 7. Answers nothing. */
 static inline uint64_t mirchollan_remove_at(mirchollan_heap *h, uint64_t word, uint64_t position,
     mirchollan_answer *answer)
 {
     return mch_remove_at(MIRCHOLLAN_LENT(h), word, position, answer);
 }
 
-/* The entry at a position, live or dead. Refused: 1, 2, 3. Answers word: value, x: hash, y: key, z: sequence
+/* The entry at a position, live or dead. Refused: 1, 11, 2, 3. Answers word: value, x: hash, y: key, z: sequence
    number, u: 1 live, 0 dead. */
 static inline uint64_t mirchollan_read_entry(const mirchollan_heap *h, uint64_t word, uint64_t position,
     mirchollan_answer *answer)
@@ -1030,33 +1035,33 @@ static inline uint64_t mirchollan_read_entry(const mirchollan_heap *h, uint64_t 
     return mch_read_entry(MIRCHOLLAN_LENT(h), word, position, answer);
 }
 
-/* A new value at a position; outside nothing changes. Refused: 1, 2. Answers nothing. */
+/* A new value at a position; outside nothing changes. Refused: 1, 11, 2. Answers nothing. */
 static inline uint64_t mirchollan_set_value(mirchollan_heap *h, uint64_t word, uint64_t position, uint64_t value,
     mirchollan_answer *answer)
 {
     return mch_set_value(MIRCHOLLAN_LENT(h), word, position, value, answer);
 }
 
-/* An integer key noted. Refused: 1, 2. Answers nothing. */
+/* An integer key noted. Refused: 1, 11, 2. Answers nothing. */
 static inline uint64_t mirchollan_note(mirchollan_heap *h, uint64_t word, int64_t key, mirchollan_answer *answer)
 {
     return mch_note(MIRCHOLLAN_LENT(h), word, key, answer);
 }
 
-/* The integer key after the greatest noted one. Refused: 1, 2. Answers word: the key, two's complement; x: 1 where
+/* The integer key after the greatest noted one. Refused: 1, 11, 2. Answers word: the key, two's complement; x: 1 where
    the next is past 2^63 - 1. */
 static inline uint64_t mirchollan_next_key(const mirchollan_heap *h, uint64_t word, mirchollan_answer *answer)
 {
     return mch_next_key(MIRCHOLLAN_LENT(h), word, answer);
 }
 
-/* The greatest noted key. Refused: 1, 2. Answers x: 1 where a key is noted, word: the key, two's complement. */
+/* The greatest noted key. Refused: 1, 11, 2. Answers x: 1 where a key is noted, word: the key, two's complement. */
 static inline uint64_t mirchollan_noted_key(const mirchollan_heap *h, uint64_t word, mirchollan_answer *answer)
 {
     return mch_noted_key(MIRCHOLLAN_LENT(h), word, answer);
 }
 
-/* The next live entry's position, or the end; the cursor is moved, unless the call is refused. Refused: 1, 2.
+/* The next live entry's position, or the end; the cursor is moved, unless the call is refused. Refused: 1, 11, 2.
    Answers x: 1 where there is an entry, word: its position; y, z, u, v: the cursor. */
 static inline uint64_t mirchollan_next(const mirchollan_heap *h, uint64_t word, mirchollan_cursor *cursor,
     mirchollan_answer *answer)
@@ -1064,98 +1069,98 @@ static inline uint64_t mirchollan_next(const mirchollan_heap *h, uint64_t word, 
     return mch_next(MIRCHOLLAN_LENT(h), word, cursor, answer);
 }
 
-/* How many live entries a map has. Refused: 1, 2. Answers word. */
+/* How many live entries a map has. Refused: 1, 11, 2. Answers word. */
 static inline uint64_t mirchollan_live_count(const mirchollan_heap *h, uint64_t word, mirchollan_answer *answer)
 {
     return mch_live_count(MIRCHOLLAN_LENT(h), word, answer);
 }
 
-/* How many places a map has, dead ones included. Refused: 1, 2. Answers word. */
+/* How many places a map has, dead ones included. Refused: 1, 11, 2. Answers word. */
 static inline uint64_t mirchollan_place_count(const mirchollan_heap *h, uint64_t word, mirchollan_answer *answer)
 {
     return mch_place_count(MIRCHOLLAN_LENT(h), word, answer);
 }
 
-/* Whether a map is hashed. Refused: 1, 2. Answers word: 1 yes, 0 no. */
+/* Whether a map is hashed. Refused: 1, 11, 2. Answers word: 1 yes, 0 no. */
 static inline uint64_t mirchollan_is_hashed(const mirchollan_heap *h, uint64_t word, mirchollan_answer *answer)
 {
     return mch_is_hashed(MIRCHOLLAN_LENT(h), word, answer);
 }
 
-/* The type of a map's keys. Refused: 1, 2. Answers word. */
+/* The type of a map's keys. Refused: 1, 11, 2. Answers word. */
 static inline uint64_t mirchollan_key_type(const mirchollan_heap *h, uint64_t word, mirchollan_answer *answer)
 {
     return mch_key_type(MIRCHOLLAN_LENT(h), word, answer);
 }
 
-/* The type of a map's values. Refused: 1, 2. Answers word. */
+/* The type of a map's values. Refused: 1, 11, 2. Answers word. */
 static inline uint64_t mirchollan_value_type(const mirchollan_heap *h, uint64_t word, mirchollan_answer *answer)
 {
     return mch_value_type(MIRCHOLLAN_LENT(h), word, answer);
 }
 
-/* How often a map was compacted, in 32 bits. Refused: 1, 2. Answers word. */
+/* How often a map was compacted, in 32 bits. Refused: 1, 11, 2. Answers word. */
 static inline uint64_t mirchollan_map_epoch(const mirchollan_heap *h, uint64_t word, mirchollan_answer *answer)
 {
     return mch_map_epoch(MIRCHOLLAN_LENT(h), word, answer);
 }
 
-/* The next entry's sequence number. Refused: 1, 2. Answers word. */
+/* The next entry's sequence number. Refused: 1, 11, 2. Answers word. */
 static inline uint64_t mirchollan_next_sequence(const mirchollan_heap *h, uint64_t word, mirchollan_answer *answer)
 {
     return mch_next_sequence(MIRCHOLLAN_LENT(h), word, answer);
 }
 
-/* The capacity of a map's entry list. Refused: 1, 2. Answers word. */
+/* The capacity of a map's entry list. Refused: 1, 11, 2. Answers word. */
 static inline uint64_t mirchollan_entry_capacity(const mirchollan_heap *h, uint64_t word, mirchollan_answer *answer)
 {
     return mch_entry_capacity(MIRCHOLLAN_LENT(h), word, answer);
 }
 
-/* The length of a map's index. Refused: 1, 2. Answers word. */
+/* The length of a map's index. Refused: 1, 11, 2. Answers word. */
 static inline uint64_t mirchollan_index_length(const mirchollan_heap *h, uint64_t word, mirchollan_answer *answer)
 {
     return mch_index_length(MIRCHOLLAN_LENT(h), word, answer);
 }
 
-/* The bytes that an insertion of this key would be charged. Refused: 1, 2. Answers word. */
+/* The bytes that an insertion of this key would be charged. Refused: 1, 11, 2. Answers word. */
 static inline uint64_t mirchollan_growth_bytes(const mirchollan_heap *h, uint64_t word, uint64_t key,
     mirchollan_answer *answer)
 {
     return mch_growth_bytes(MIRCHOLLAN_LENT(h), word, key, answer);
 }
 
-/* The next item of an iterator, or its end. Refused: 1, 2. Answers x: 1 where there is an item, word: the item. */
+/* The next item of an iterator, or its end. Refused: 1, 11, 2. Answers x: 1 where there is an item, word: the item. */
 static inline uint64_t mirchollan_iter_next(mirchollan_heap *h, uint64_t word, mirchollan_answer *answer)
 {
     return mch_iter_next(MIRCHOLLAN_LENT(h), word, answer);
 }
 
-/* The key of the item visited last. Refused: 1, 2. Answers x: 1 where an item was visited, word: its key. */
+/* The key of the item visited last. Refused: 1, 11, 2. Answers x: 1 where an item was visited, word: its key. */
 static inline uint64_t mirchollan_iter_key(const mirchollan_heap *h, uint64_t word, mirchollan_answer *answer)
 {
     return mch_iter_key(MIRCHOLLAN_LENT(h), word, answer);
 }
 
-/* The word of the array or map that an iterator goes over. Refused: 1, 2. Answers word. */
+/* The word of the array or map that an iterator goes over. Refused: 1, 11, 2. Answers word. */
 static inline uint64_t mirchollan_iter_source(const mirchollan_heap *h, uint64_t word, mirchollan_answer *answer)
 {
     return mch_iter_source(MIRCHOLLAN_LENT(h), word, answer);
 }
 
-/* The type of an iterator's keys. Refused: 1, 2. Answers word. */
+/* The type of an iterator's keys. Refused: 1, 11, 2. Answers word. */
 static inline uint64_t mirchollan_iter_key_type(const mirchollan_heap *h, uint64_t word, mirchollan_answer *answer)
 {
     return mch_iter_key_type(MIRCHOLLAN_LENT(h), word, answer);
 }
 
-/* Whether an iterator has ended. Refused: 1, 2. Answers word: 1 yes, 0 no. */
+/* Whether an iterator has ended. Refused: 1, 11, 2. Answers word: 1 yes, 0 no. */
 static inline uint64_t mirchollan_iter_ended(const mirchollan_heap *h, uint64_t word, mirchollan_answer *answer)
 {
     return mch_iter_ended(MIRCHOLLAN_LENT(h), word, answer);
 }
 
-/* An iterator's cursor. Refused: 1, 2. Answers over an array, x: 6, word: index; over a map, x: 7, word: position,
+/* An iterator's cursor. Refused: 1, 11, 2. Answers over an array, x: 6, word: index; over a map, x: 7, word: position,
    y: 1 where an entry was yielded, z: its sequence number, u: epoch. */
 static inline uint64_t mirchollan_iter_cursor(const mirchollan_heap *h, uint64_t word, mirchollan_answer *answer)
 {

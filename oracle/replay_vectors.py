@@ -87,9 +87,10 @@ def held(script):
 
 def compared(script):
     """Does the original print the same? None: refusals 6 to 10 are outside its domain."""
-    text = lines(script)
-    if any(line.split()[1] in ("6", "7", "8", "9", "10") for line in text.splitlines()):
+    run = model.Runner().run(script)
+    if any(line.split()[1] in ("6", "7", "8", "9", "10") for line in run.lines):
         return None
+    script, text = compare.for_oracle(run, False)
     return compare.oracle([script], False, None)[0][0] == text
 
 

@@ -114,5 +114,5 @@ int main(void)
     printf("the slot of the parcel that left is in use again: %s\n", (uint32_t)iterator == (uint32_t)gone ? "yes" : "no");
     uint64_t refusal = mirchollan_read_field(&heap, gone, NAME, &a);
     printf("the parcel that left: refused with %" PRIu64 "\n", refusal);
-    return refusal == MIRCHOLLAN_REACHES_NOTHING ? 0 : 1;
+    return refusal == MIRCHOLLAN_DEAD_REFERENCE ? 0 : 1;
 }

@@ -1,9 +1,10 @@
 #!/usr/bin/env python3
 """Reference model of documents 01 and 02, written from them alone.
 
-FEATURES  the follow-up requests of document 02 that have landed, "i" to "xiv";
+FEATURES  the follow-up requests of document 02 in force, "i" to "xiv";
           empty: document 01. `--with=i,iii` or `--with=all` on the command line
-          of any of these programs, else the environment variable FEATURES.
+          of any of these programs, else the environment variable FEATURES, else
+          LANDED.
           (iv) is in cycle.py, (x) and (xiii) in plan.py, (xiv) in holder.py.
 Heap      the model: slots, pile, account, capacities, cells, maps, iterators,
           coroutines, layout, collection, refusals in their order
@@ -20,6 +21,7 @@ import struct as _st
 import sys
 import zlib
 
+LANDED = "i"                                  # those that the product has
 REQUESTS = ["i", "ii", "iii", "iv", "v", "vi", "vii", "viii", "ix", "x", "xi", "xii", "xiii", "xiv"]
 FEATURES = set()
 
@@ -1780,7 +1782,7 @@ SPEC_02 = [
     ("xiii", 0x7A, "to_older", "Sq"), ("xiii", 0x7B, "from_older", "Sq"), ("xiv", 0x7C, "holder", "qWq"),
 ]
 SPEC, BY_NAME = {}, {}                        # those in force
-set_features(next((x[7:] for x in sys.argv if x.startswith("--with=")), os.environ.get("FEATURES", "")))
+set_features(next((x[7:] for x in sys.argv if x.startswith("--with=")), os.environ.get("FEATURES", LANDED)))
 CALLSHEET = (0x01, 0x02, 0x06, 0x0B, 0x0C)
 LIST_FILL = 0xAAAAAAAAAAAA0000
 OPEN_CALLSHEET = (256, 2048, 1048576, 64, 40, 80, 160, 32, b"\0")

@@ -13,8 +13,8 @@ pub struct Word(pub u64);
 /// Why a call was refused. A refused call changes nothing.
 #[derive(Clone, Copy, PartialEq, Eq, Debug)]
 pub enum Refusal {
-    /// Nil, or a reference to an object that is no longer there.
-    ReachesNothing = 1,
+    /// A call on nil.
+    NilTarget = 1,
     /// An object of another kind, or a word neither nil nor reference.
     OtherKind = 2,
     /// A position outside, pop of an empty array, a negative length.
@@ -29,7 +29,12 @@ pub enum Refusal {
     /// A map's 2^32 sequence numbers are spent.
     Spent = 9,
     BadOpening = 10,
+    /// A reference to an object that is not there, or no longer.
+    DeadReference = 11,
 }
+
+/// What [`Heap::get`] and [`Heap::kind_of`] answer of a dead reference.
+pub const DEAD: u64 = 15;
 
 /// The type of an array's items, of a map's keys or values, or of a cell's word.
 #[derive(Clone, Copy, PartialEq, Eq, Debug)]
@@ -145,7 +150,7 @@ type Answer = [u64; 6];
 fn told(number: u64, answer: Answer) -> Result<Answer, Refusal> {
     Err(match number {
         0 => return Ok(answer),
-        1 => Refusal::ReachesNothing,
+        1 => Refusal::NilTarget,
         2 => Refusal::OtherKind,
         3 => Refusal::Outside,
         4 => Refusal::BadType,
@@ -154,7 +159,9 @@ fn told(number: u64, answer: Answer) -> Result<Answer, Refusal> {
         7 => Refusal::NoCells,
         8 => Refusal::TooShort,
         9 => Refusal::Spent,
-        _ => Refusal::BadOpening,
+        10 => Refusal::BadOpening,
+        11 => Refusal::DeadReference,
+        _ => unreachable!("no refusal has the number {number}"),
     })
 }
 
@@ -444,7 +451,7 @@ impl Heap {
             .map(|a| Word(a[0]))
     }
 
-    /// An iterator over an array or a map. Refused: 1, 2, 5, 6.
+    /// An iterator over an array or a map. Refused: 1, 11, 2, 5, 6.
     pub fn new_iter(&mut self, source: Word) -> Result<Word, Refusal> {
         change!(self.mch_new_iter(source.0)).map(|a| Word(a[0]))
     }
@@ -467,7 +474,8 @@ impl Heap {
 
 /// Readings.
 impl Heap {
-    /// The row of the object that a word reaches, 0 for none: 1 string, 2 integer, 3 cell, 4 error, 5 box, 6 array, 7 map, 8 struct, 9 function, 10 iterator, 11 coroutine.
+    /// The row of the object that a word reaches: 1 string, 2 integer, 3 cell, 4 error, 5 box, 6 array, 7 map, 8 struct, 9 function, 10 iterator, 11 coroutine; [`DEAD`] for a dead
+    /// reference, 0 for any other word.
     pub fn get(&self, word: Word) -> u64 {
         let a = never(read!(self.mch_get(word.0)));
         a[0]
@@ -479,153 +487,153 @@ impl Heap {
         Word(a[0])
     }
 
-    /// The number of a word's kind.
+    /// The number of a word's kind: 0 nil, an object's row, 2 an integer, 12 truth, 13 float, 14 character, [`DEAD`] a dead reference.
     pub fn kind_of(&self, word: Word) -> u64 {
         let a = never(read!(self.mch_kind_of(word.0)));
         a[0]
     }
 
-    /// The length of a string in bytes. Refused: 1, 2.
+    /// The length of a string in bytes. Refused: 1, 11, 2.
     pub fn string_length(&self, string: Word) -> Result<u64, Refusal> {
         read!(self.mch_string_length(string.0)).map(|a| a[0])
     }
 
-    /// A string's bytes, into the buffer's first places; 8 where the buffer is shorter. Refused: 1, 2, 8.
+    /// A string's bytes, into the buffer's first places; 8 where the buffer is shorter. Refused: 1, 11, 2, 8.
     pub fn read_string(&self, string: Word, buffer: &mut [u8]) -> Result<u64, Refusal> {
         read!(self.mch_read_string(string.0, buffer.as_mut_ptr(), buffer.len())).map(|a| a[0])
     }
 
-    /// An integer object's number. Refused: 1, 2.
+    /// An integer object's number. Refused: 1, 11, 2.
     pub fn read_integer(&self, integer: Word) -> Result<i64, Refusal> {
         read!(self.mch_read_integer(integer.0)).map(|a| a[0] as i64)
     }
 
-    /// A cell's word. Refused: 1, 2.
+    /// A cell's word. Refused: 1, 11, 2.
     pub fn read_cell(&self, cell: Word) -> Result<Word, Refusal> {
         read!(self.mch_read_cell(cell.0)).map(|a| Word(a[0]))
     }
 
-    /// A cell's type. Refused: 1, 2.
+    /// A cell's type. Refused: 1, 11, 2.
     pub fn cell_type(&self, cell: Word) -> Result<u64, Refusal> {
         read!(self.mch_cell_type(cell.0)).map(|a| a[0])
     }
 
-    /// An error's kind. Refused: 1, 2.
+    /// An error's kind. Refused: 1, 11, 2.
     pub fn error_kind(&self, error: Word) -> Result<u64, Refusal> {
         read!(self.mch_error_kind(error.0)).map(|a| a[0])
     }
 
-    /// An error's word. Refused: 1, 2.
+    /// An error's word. Refused: 1, 11, 2.
     pub fn error_word(&self, error: Word) -> Result<Word, Refusal> {
         read!(self.mch_error_word(error.0)).map(|a| Word(a[0]))
     }
 
-    /// A box's word. Refused: 1, 2.
+    /// A box's word. Refused: 1, 11, 2.
     pub fn read_box(&self, boxed: Word) -> Result<Word, Refusal> {
         read!(self.mch_read_box(boxed.0)).map(|a| Word(a[0]))
     }
 
-    /// The type of an array's items. Refused: 1, 2.
+    /// The type of an array's items. Refused: 1, 11, 2.
     pub fn array_type(&self, array: Word) -> Result<u64, Refusal> {
         read!(self.mch_array_type(array.0)).map(|a| a[0])
     }
 
-    /// The length of an array. Refused: 1, 2.
+    /// The length of an array. Refused: 1, 11, 2.
     pub fn array_length(&self, array: Word) -> Result<u64, Refusal> {
         read!(self.mch_array_length(array.0)).map(|a| a[0])
     }
 
-    /// The capacity of an array. Refused: 1, 2.
+    /// The capacity of an array. Refused: 1, 11, 2.
     pub fn array_capacity(&self, array: Word) -> Result<u64, Refusal> {
         read!(self.mch_array_capacity(array.0)).map(|a| a[0])
     }
 
-    /// An item of an array, as it was stored. Refused: 1, 2, 3.
+    /// An item of an array, as it was stored. Refused: 1, 11, 2, 3.
     pub fn read_item(&self, array: Word, index: u64) -> Result<Word, Refusal> {
         read!(self.mch_read_item(array.0, index)).map(|a| Word(a[0]))
     }
 
-    /// A struct's type. Refused: 1, 2.
+    /// A struct's type. Refused: 1, 11, 2.
     pub fn struct_number(&self, object: Word) -> Result<u64, Refusal> {
         read!(self.mch_struct_number(object.0)).map(|a| a[0])
     }
 
-    /// How many fields a struct has. Refused: 1, 2.
+    /// How many fields a struct has. Refused: 1, 11, 2.
     pub fn field_count(&self, object: Word) -> Result<u64, Refusal> {
         read!(self.mch_field_count(object.0)).map(|a| a[0])
     }
 
-    /// A field of a struct. Refused: 1, 2, 3.
+    /// A field of a struct. Refused: 1, 11, 2, 3.
     pub fn read_field(&self, object: Word, index: u64) -> Result<Word, Refusal> {
         read!(self.mch_read_field(object.0, index)).map(|a| Word(a[0]))
     }
 
-    /// Whether a function is an import. Refused: 1, 2.
+    /// Whether a function is an import. Refused: 1, 11, 2.
     pub fn is_import(&self, function: Word) -> Result<bool, Refusal> {
         read!(self.mch_is_import(function.0)).map(|a| a[0] != 0)
     }
 
-    /// A function's number. Refused: 1, 2.
+    /// A function's number. Refused: 1, 11, 2.
     pub fn function_number(&self, function: Word) -> Result<u64, Refusal> {
         read!(self.mch_function_number(function.0)).map(|a| a[0])
     }
 
-    /// How many captures a function has. Refused: 1, 2.
+    /// How many captures a function has. Refused: 1, 11, 2.
     pub fn capture_count(&self, function: Word) -> Result<u64, Refusal> {
         read!(self.mch_capture_count(function.0)).map(|a| a[0])
     }
 
-    /// A capture of a function. Refused: 1, 2, 3.
+    /// A capture of a function. Refused: 1, 11, 2, 3.
     pub fn read_capture(&self, function: Word, index: u64) -> Result<Word, Refusal> {
         read!(self.mch_read_capture(function.0, index)).map(|a| Word(a[0]))
     }
 
-    /// A coroutine's state. Refused: 1, 2.
+    /// A coroutine's state. Refused: 1, 11, 2.
     pub fn read_state(&self, coroutine: Word) -> Result<u64, Refusal> {
         read!(self.mch_read_state(coroutine.0)).map(|a| a[0])
     }
 
-    /// A coroutine's payload. Refused: 1, 2.
+    /// A coroutine's payload. Refused: 1, 11, 2.
     pub fn read_payload(&self, coroutine: Word) -> Result<Word, Refusal> {
         read!(self.mch_read_payload(coroutine.0)).map(|a| Word(a[0]))
     }
 
-    /// A coroutine's key. Refused: 1, 2.
+    /// A coroutine's key. Refused: 1, 11, 2.
     pub fn read_key(&self, coroutine: Word) -> Result<Word, Refusal> {
         read!(self.mch_read_key(coroutine.0)).map(|a| Word(a[0]))
     }
 
-    /// A coroutine's result. Refused: 1, 2.
+    /// A coroutine's result. Refused: 1, 11, 2.
     pub fn read_result(&self, coroutine: Word) -> Result<Word, Refusal> {
         read!(self.mch_read_result(coroutine.0)).map(|a| Word(a[0]))
     }
 
-    /// A coroutine's signal. Refused: 1, 2.
+    /// A coroutine's signal. Refused: 1, 11, 2.
     pub fn read_signal(&self, coroutine: Word) -> Result<Word, Refusal> {
         read!(self.mch_read_signal(coroutine.0)).map(|a| Word(a[0]))
     }
 
-    /// A coroutine's sequence number. Refused: 1, 2.
+    /// A coroutine's sequence number. Refused: 1, 11, 2.
     pub fn coroutine_sequence(&self, coroutine: Word) -> Result<u64, Refusal> {
         read!(self.mch_coroutine_sequence(coroutine.0)).map(|a| a[0])
     }
 
-    /// Whether a coroutine is finalized. Refused: 1, 2.
+    /// Whether a coroutine is finalized. Refused: 1, 11, 2.
     pub fn coroutine_finalized(&self, coroutine: Word) -> Result<bool, Refusal> {
         read!(self.mch_coroutine_finalized(coroutine.0)).map(|a| a[0] != 0)
     }
 
-    /// How many registers a coroutine has. Refused: 1, 2.
+    /// How many registers a coroutine has. Refused: 1, 11, 2.
     pub fn register_count(&self, coroutine: Word) -> Result<u64, Refusal> {
         read!(self.mch_register_count(coroutine.0)).map(|a| a[0])
     }
 
-    /// How many frames a coroutine has. Refused: 1, 2.
+    /// How many frames a coroutine has. Refused: 1, 11, 2.
     pub fn frame_count(&self, coroutine: Word) -> Result<u64, Refusal> {
         read!(self.mch_frame_count(coroutine.0)).map(|a| a[0])
     }
 
-    /// A frame of a coroutine. Refused: 1, 2, 3.
+    /// A frame of a coroutine. Refused: 1, 11, 2, 3.
     pub fn read_frame(&self, coroutine: Word, index: u64) -> Result<Frame, Refusal> {
         read!(self.mch_read_frame(coroutine.0, index)).map(|a| Frame {
             function: a[0],
@@ -635,7 +643,7 @@ impl Heap {
         })
     }
 
-    /// A register of a coroutine. Refused: 1, 2, 3.
+    /// A register of a coroutine. Refused: 1, 11, 2, 3.
     pub fn read_register(&self, coroutine: Word, index: u64) -> Result<Word, Refusal> {
         read!(self.mch_read_register(coroutine.0, index)).map(|a| Word(a[0]))
     }
@@ -643,67 +651,67 @@ impl Heap {
 
 /// Stores, and arrays that grow and shrink.
 impl Heap {
-    /// A new word for a cell. Refused: 1, 2.
+    /// A new word for a cell. Refused: 1, 11, 2.
     pub fn store_cell(&mut self, cell: Word, value: Word) -> Result<(), Refusal> {
         change!(self.mch_store_cell(cell.0, value.0)).map(|_| ())
     }
 
-    /// A new word for a box. Refused: 1, 2.
+    /// A new word for a box. Refused: 1, 11, 2.
     pub fn store_box(&mut self, boxed: Word, value: Word) -> Result<(), Refusal> {
         change!(self.mch_store_box(boxed.0, value.0)).map(|_| ())
     }
 
-    /// A new item of an array; outside the length nothing changes. Refused: 1, 2, 5.
+    /// A new item of an array; outside the length nothing changes. Refused: 1, 11, 2, 5.
     pub fn store_item(&mut self, array: Word, index: u64, value: Word) -> Result<(), Refusal> {
         change!(self.mch_store_item(array.0, index, value.0)).map(|_| ())
     }
 
-    /// An item behind the last of an array. Refused: 1, 2, 5, 7.
+    /// An item behind the last of an array. Refused: 1, 11, 2, 5, 7.
     pub fn push(&mut self, array: Word, value: Word) -> Result<(), Refusal> {
         change!(self.mch_push(array.0, value.0)).map(|_| ())
     }
 
-    /// The last item of an array, taken off. Refused: 1, 2, 3, 5.
+    /// The last item of an array, taken off. Refused: 1, 11, 2, 3, 5.
     pub fn pop(&mut self, array: Word) -> Result<Word, Refusal> {
         change!(self.mch_pop(array.0)).map(|a| Word(a[0]))
     }
 
-    /// A new word for a field of a struct. Refused: 1, 2, 3.
+    /// A new word for a field of a struct. Refused: 1, 11, 2, 3.
     pub fn store_field(&mut self, object: Word, index: u64, value: Word) -> Result<(), Refusal> {
         change!(self.mch_store_field(object.0, index, value.0)).map(|_| ())
     }
 
-    /// A new word for a capture of a function. Refused: 1, 2, 3.
+    /// A new word for a capture of a function. Refused: 1, 11, 2, 3.
     pub fn store_capture(&mut self, function: Word, index: u64, value: Word) -> Result<(), Refusal> {
         change!(self.mch_store_capture(function.0, index, value.0)).map(|_| ())
     }
 
-    /// A new word for a register of a coroutine. Refused: 1, 2, 3.
+    /// A new word for a register of a coroutine. Refused: 1, 11, 2, 3.
     pub fn store_register(&mut self, coroutine: Word, index: u64, value: Word) -> Result<(), Refusal> {
         change!(self.mch_store_register(coroutine.0, index, value.0)).map(|_| ())
     }
 
-    /// A new payload for a coroutine. Refused: 1, 2.
+    /// A new payload for a coroutine. Refused: 1, 11, 2.
     pub fn store_payload(&mut self, coroutine: Word, value: Word) -> Result<(), Refusal> {
         change!(self.mch_store_payload(coroutine.0, value.0)).map(|_| ())
     }
 
-    /// A new key for a coroutine. Refused: 1, 2.
+    /// A new key for a coroutine. Refused: 1, 11, 2.
     pub fn store_key(&mut self, coroutine: Word, value: Word) -> Result<(), Refusal> {
         change!(self.mch_store_key(coroutine.0, value.0)).map(|_| ())
     }
 
-    /// A new result for a coroutine. Refused: 1, 2.
+    /// A new result for a coroutine. Refused: 1, 11, 2.
     pub fn store_result(&mut self, coroutine: Word, value: Word) -> Result<(), Refusal> {
         change!(self.mch_store_result(coroutine.0, value.0)).map(|_| ())
     }
 
-    /// A new signal for a coroutine. Refused: 1, 2.
+    /// A new signal for a coroutine. Refused: 1, 11, 2.
     pub fn store_signal(&mut self, coroutine: Word, value: Word) -> Result<(), Refusal> {
         change!(self.mch_store_signal(coroutine.0, value.0)).map(|_| ())
     }
 
-    /// A new state for a coroutine. Refused: 4, 1, 2.
+    /// A new state for a coroutine. Refused: 4, 1, 11, 2.
     pub fn set_state(&mut self, coroutine: Word, s: u64) -> Result<(), Refusal> {
         change!(self.mch_set_state(coroutine.0, s)).map(|_| ())
     }
@@ -711,32 +719,32 @@ impl Heap {
 
 /// Maps and iterators.
 impl Heap {
-    /// The value of a key: overwritten where the key is found, else an entry is added. Refused: 1, 2, 9, 5, 7.
+    /// The value of a key: overwritten where the key is found, else an entry is added. Refused: 1, 11, 2, 9, 5, 7.
     pub fn put(&mut self, map: Word, hash: u64, key: Word, value: Word) -> Result<(), Refusal> {
         change!(self.mch_put(map.0, hash, key.0, value.0)).map(|_| ())
     }
 
-    /// An entry added, whatever is there. Refused: 1, 2, 9, 5, 7.
+    /// An entry added, whatever is there. Refused: 1, 11, 2, 9, 5, 7.
     pub fn insert_entry(&mut self, map: Word, hash: u64, key: Word, value: Word) -> Result<(), Refusal> {
         change!(self.mch_insert_entry(map.0, hash, key.0, value.0)).map(|_| ())
     }
 
-    /// The position of a key: of an entry with this hash and key word. Refused: 1, 2.
+    /// The position of a key: of an entry with this hash and key word. Refused: 1, 11, 2.
     pub fn find(&self, map: Word, hash: u64, key: Word) -> Result<Option<u64>, Refusal> {
         read!(self.mch_find(map.0, hash, key.0)).map(|a| (a[1] != 0).then_some(a[0]))
     }
 
-    /// The entry of a key removed. Refused: 1, 2, 7.
+    /// The entry of a key removed. Refused: 1, 11, 2, 7.
     pub fn remove(&mut self, map: Word, hash: u64, key: Word) -> Result<(), Refusal> {
         change!(self.mch_remove(map.0, hash, key.0)).map(|_| ())
     }
 
-    /// The entry at a position removed. Refused: 1, 2, 7.
+    /// The entry at a position removed. Refused: 1, 11, 2, 7.
     pub fn remove_at(&mut self, map: Word, position: u64) -> Result<(), Refusal> {
         change!(self.mch_remove_at(map.0, position)).map(|_| ())
     }
 
-    /// The entry at a position, live or dead. Refused: 1, 2, 3.
+    /// The entry at a position, live or dead. Refused: 1, 11, 2, 3.
     pub fn read_entry(&self, map: Word, position: u64) -> Result<Entry, Refusal> {
         read!(self.mch_read_entry(map.0, position)).map(|a| Entry {
             hash: a[1],
@@ -747,27 +755,27 @@ impl Heap {
         })
     }
 
-    /// A new value at a position; outside nothing changes. Refused: 1, 2.
+    /// A new value at a position; outside nothing changes. Refused: 1, 11, 2.
     pub fn set_value(&mut self, map: Word, position: u64, value: Word) -> Result<(), Refusal> {
         change!(self.mch_set_value(map.0, position, value.0)).map(|_| ())
     }
 
-    /// An integer key noted. Refused: 1, 2.
+    /// An integer key noted. Refused: 1, 11, 2.
     pub fn note(&mut self, map: Word, key: i64) -> Result<(), Refusal> {
         change!(self.mch_note(map.0, key)).map(|_| ())
     }
 
-    /// The integer key after the greatest noted one. Refused: 1, 2.
+    /// The integer key after the greatest noted one. Refused: 1, 11, 2.
     pub fn next_key(&self, map: Word) -> Result<Option<i64>, Refusal> {
         read!(self.mch_next_key(map.0)).map(|a| (a[1] == 0).then_some(a[0] as i64))
     }
 
-    /// The greatest noted key. Refused: 1, 2.
+    /// The greatest noted key. Refused: 1, 11, 2.
     pub fn noted_key(&self, map: Word) -> Result<Option<i64>, Refusal> {
         read!(self.mch_noted_key(map.0)).map(|a| (a[1] != 0).then_some(a[0] as i64))
     }
 
-    /// The next live entry's position, or the end; the cursor is moved, unless the call is refused. Refused: 1, 2.
+    /// The next live entry's position, or the end; the cursor is moved, unless the call is refused. Refused: 1, 11, 2.
     pub fn next(&self, map: Word, cursor: &mut Cursor) -> Result<Option<u64>, Refusal> {
         let mut words = cursor.words();
         let told = read!(self.mch_next(map.0, words.as_mut_ptr()));
@@ -775,82 +783,82 @@ impl Heap {
         told.map(|a| (a[1] != 0).then_some(a[0]))
     }
 
-    /// How many live entries a map has. Refused: 1, 2.
+    /// How many live entries a map has. Refused: 1, 11, 2.
     pub fn live_count(&self, map: Word) -> Result<u64, Refusal> {
         read!(self.mch_live_count(map.0)).map(|a| a[0])
     }
 
-    /// How many places a map has, dead ones included. Refused: 1, 2.
+    /// How many places a map has, dead ones included. Refused: 1, 11, 2.
     pub fn place_count(&self, map: Word) -> Result<u64, Refusal> {
         read!(self.mch_place_count(map.0)).map(|a| a[0])
     }
 
-    /// Whether a map is hashed. Refused: 1, 2.
+    /// Whether a map is hashed. Refused: 1, 11, 2.
     pub fn is_hashed(&self, map: Word) -> Result<bool, Refusal> {
         read!(self.mch_is_hashed(map.0)).map(|a| a[0] != 0)
     }
 
-    /// The type of a map's keys. Refused: 1, 2.
+    /// The type of a map's keys. Refused: 1, 11, 2.
     pub fn key_type(&self, map: Word) -> Result<u64, Refusal> {
         read!(self.mch_key_type(map.0)).map(|a| a[0])
     }
 
-    /// The type of a map's values. Refused: 1, 2.
+    /// The type of a map's values. Refused: 1, 11, 2.
     pub fn value_type(&self, map: Word) -> Result<u64, Refusal> {
         read!(self.mch_value_type(map.0)).map(|a| a[0])
     }
 
-    /// How often a map was compacted, in 32 bits. Refused: 1, 2.
+    /// How often a map was compacted, in 32 bits. Refused: 1, 11, 2.
     pub fn map_epoch(&self, map: Word) -> Result<u64, Refusal> {
         read!(self.mch_map_epoch(map.0)).map(|a| a[0])
     }
 
-    /// The next entry's sequence number. Refused: 1, 2.
+    /// The next entry's sequence number. Refused: 1, 11, 2.
     pub fn next_sequence(&self, map: Word) -> Result<u64, Refusal> {
         read!(self.mch_next_sequence(map.0)).map(|a| a[0])
     }
 
-    /// The capacity of a map's entry list. Refused: 1, 2.
+    /// The capacity of a map's entry list. Refused: 1, 11, 2.
     pub fn entry_capacity(&self, map: Word) -> Result<u64, Refusal> {
         read!(self.mch_entry_capacity(map.0)).map(|a| a[0])
     }
 
-    /// The length of a map's index. Refused: 1, 2.
+    /// The length of a map's index. Refused: 1, 11, 2.
     pub fn index_length(&self, map: Word) -> Result<u64, Refusal> {
         read!(self.mch_index_length(map.0)).map(|a| a[0])
     }
 
-    /// The bytes that an insertion of this key would be charged. Refused: 1, 2.
+    /// The bytes that an insertion of this key would be charged. Refused: 1, 11, 2.
     pub fn growth_bytes(&self, map: Word, key: Word) -> Result<u64, Refusal> {
         read!(self.mch_growth_bytes(map.0, key.0)).map(|a| a[0])
     }
 
-    /// The next item of an iterator, or its end. Refused: 1, 2.
+    /// The next item of an iterator, or its end. Refused: 1, 11, 2.
     pub fn iter_next(&mut self, iterator: Word) -> Result<Option<Word>, Refusal> {
         change!(self.mch_iter_next(iterator.0)).map(|a| (a[1] != 0).then_some(Word(a[0])))
     }
 
-    /// The key of the item visited last. Refused: 1, 2.
+    /// The key of the item visited last. Refused: 1, 11, 2.
     pub fn iter_key(&self, iterator: Word) -> Result<Option<Word>, Refusal> {
         read!(self.mch_iter_key(iterator.0)).map(|a| (a[1] != 0).then_some(Word(a[0])))
     }
 
-    /// The word of the array or map that an iterator goes over. Refused: 1, 2.
+    /// The word of the array or map that an iterator goes over. Refused: 1, 11, 2.
     pub fn iter_source(&self, iterator: Word) -> Result<Word, Refusal> {
         read!(self.mch_iter_source(iterator.0)).map(|a| Word(a[0]))
     }
 
-    /// The type of an iterator's keys. Refused: 1, 2.
+    /// The type of an iterator's keys. Refused: 1, 11, 2.
     pub fn iter_key_type(&self, iterator: Word) -> Result<u64, Refusal> {
         read!(self.mch_iter_key_type(iterator.0)).map(|a| a[0])
     }
 
-    /// Whether an iterator has ended. Refused: 1, 2.
+    /// Whether an iterator has ended. Refused: 1, 11, 2.
     pub fn iter_ended(&self, iterator: Word) -> Result<bool, Refusal> {
         read!(self.mch_iter_ended(iterator.0)).map(|a| a[0] != 0)
     }
 
-    /// An iterator's cursor. Refused: 1, 2.
+    /// An iterator's cursor. Refused: 1, 11, 2.
     pub fn iter_cursor(&self, iterator: Word) -> Result<IterCursor, Refusal> {
         read!(self.mch_iter_cursor(iterator.0)).map(|a| IterCursor::of(a))
     }

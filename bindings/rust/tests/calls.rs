@@ -1,5 +1,5 @@
 //! Every call, accepted and refused.
-use mirchollan::{Coroutine, Cursor, Entry, Frame, Heap, IterCursor, Refusal, Type, Value, Weights, Word};
+use mirchollan::{Coroutine, Cursor, Entry, Frame, Heap, IterCursor, Refusal, Type, Value, Weights, Word, DEAD};
 
 const WEIGHTS: Weights = Weights { slot: 64, entry: 40, iterator: 80, coroutine: 160, frame: 32 };
 const STALE: Word = Word(0x0001_0000_0000_0007);
@@ -12,10 +12,10 @@ fn integer(n: i64) -> Word {
     Word::from_i64(n).unwrap()
 }
 
-/// Refused with 1 for nil and a stale reference, with 2 for an object of another kind and a word that is no reference.
+/// Refused with 1 for nil, with 11 for a stale reference, with 2 for an object of another kind and a word that is no reference.
 fn judges<T: std::fmt::Debug + PartialEq>(other: Word, mut call: impl FnMut(Word) -> Result<T, Refusal>) {
-    assert_eq!(call(Word::NIL), Err(Refusal::ReachesNothing));
-    assert_eq!(call(STALE), Err(Refusal::ReachesNothing));
+    assert_eq!(call(Word::NIL), Err(Refusal::NilTarget));
+    assert_eq!(call(STALE), Err(Refusal::DeadReference));
     assert_eq!(call(other), Err(Refusal::OtherKind));
     assert_eq!(call(integer(3)), Err(Refusal::OtherKind));
 }
@@ -109,8 +109,9 @@ fn plain_kinds() {
     h.store_box(boxed, integer(2)).unwrap();
     assert_eq!((h.read_box(boxed), h.deref(boxed), h.deref(text)), (Ok(integer(2)), integer(2), text));
 
-    assert_eq!((h.get(text), h.get(boxed), h.get(STALE), h.get(integer(1))), (1, 5, 0, 0));
-    assert_eq!((h.kind_of(error), h.kind_of(Word::from_bool(true)), h.kind_of(STALE)), (4, 12, 0));
+    assert_eq!((h.get(text), h.get(boxed), h.get(STALE), h.get(integer(1))), (1, 5, DEAD, 0));
+    assert_eq!((h.kind_of(error), h.kind_of(Word::from_bool(true)), h.kind_of(STALE)), (4, 12, DEAD));
+    assert_eq!((h.get(Word::NIL), h.kind_of(Word::NIL)), (0, 0));
 
     judges(cell, |w| h.string_length(w));
     judges(cell, |w| h.read_string(w, &mut [0; 16]));
@@ -347,10 +348,10 @@ fn collecting() {
     assert_eq!((places, h.collection_count(), h.read_box(lost)), ([Word(9); 3], 0, Ok(integer(2))));
     let collected = h.collect(&[root], &mut places).unwrap();
     assert_eq!((collected.freed, collected.listed, places), (1, 2, [b, a, Word(9)]));
-    assert_eq!((h.read_box(kept), h.read_box(lost)), (Ok(integer(1)), Err(Refusal::ReachesNothing)));
+    assert_eq!((h.read_box(kept), h.read_box(lost)), (Ok(integer(1)), Err(Refusal::DeadReference)));
     assert_eq!((h.coroutine_finalized(a), h.coroutine_finalized(b)), (Ok(true), Ok(true)));
     let again = h.new_box(integer(3)).unwrap();
-    assert_eq!((again.0 as u32, h.read_box(lost)), (lost.0 as u32, Err(Refusal::ReachesNothing)));
+    assert_eq!((again.0 as u32, h.read_box(lost)), (lost.0 as u32, Err(Refusal::DeadReference)));
     assert_eq!(h.collect(&[root, again], &mut places).unwrap().freed, 2);
     assert_eq!((h.present_count(), h.freed_count()), (3, 3));
 }

@@ -96,6 +96,7 @@ fn kind_number(k: Kind) -> u64
         Kind::Truth => 12,
         Kind::Float => 13,
         Kind::Character => 14,
+        Kind::Dead => 15,
     }
 }
 

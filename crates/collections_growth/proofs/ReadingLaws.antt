@@ -22,7 +22,7 @@ use Rattle.heap.proofs.KindLaws.{Says}
 use Rattle.heap.proofs.ReachLaws.{Target}
 use Rattle.heap.proofs.ReadLaws.{object-answered, object-refused}
 
--- refused by 1 or 2 alone, without charge and lent memory
+-- refused by 1, 11 or 2 alone, without charge and lent memory
 pub record Row (t : State) (k : Call) (is : Content → Bool) (w : ℕ) : Type 0 where
   pub effect-is : (l : Layout) → effect (viewOf (modelOf l t)) k ≡ same
   pub terms-are : (l : Layout) → terms (modelOf l t) k ≡ uncharged (target (viewOf (modelOf l t)) is w ∷ []) ((terms (modelOf l t) k) .answer)

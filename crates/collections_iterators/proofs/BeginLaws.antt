@@ -40,7 +40,7 @@ use Rattle.heap.specs.Promise.{Performs}
 use Rattle.heap.specs.Placing.{Object, newRaw}
 use Rattle.heap.proofs.DoesLaws.{first-none, first-passes, first-refuses}
 use Rattle.heap.proofs.KindLaws.{content-array, content-iterator, content-map, iterable-test, room-none, row-of-content}
-use Rattle.heap.proofs.ReachLaws.{found-reached, nothing-look, nothing-target, reached-look, reached-target, wrong-look, wrong-target}
+use Rattle.heap.proofs.ReachLaws.{dead-look, dead-target, found-reached, nil-look, nil-target, reached-look, reached-target, wrong-look, wrong-target}
 use Rattle.heap_allocation.specs.Making.{headerOf}
 use Rattle.heap_allocation.proofs.MakeLaws.{Means, makes, next-more, plain-performs, ready-scalars, ready-self, refused-own}
 use Rattle.collections_iterators.specs.Beginning.{Begins, unbegun}
@@ -95,9 +95,13 @@ module _ {t : State} (g : Good t) {source : ℕ} where
   iterator-refused q keys k p = refused-own {c = newIterator source keys} {s = noRoom} q (λ l. target (viewOf (modelOf l t)) iterable source ∷ []) g (λ l. rw (k l)) (λ l. refl) (λ l. first-refuses [] q (p l))
 
   module _ {f : FoundSlot} (d : Finds (t .slots) (t .heap .fresh) source f) where
-    pub iterates-nothing : f ≡ F.Nothing → Performs (Calls.new-iter source) t (madeIs (Read.Refused No.ReachesNothing)) t
+    pub iterates-nil : f ≡ F.Nil → Performs (Calls.new-iter source) t (madeIs (Read.Refused No.NilTarget)) t
     unfolding keyTypeOf numberOf
-    iterates-nothing e = iterator-refused No.ReachesNothing 0 (λ l. rw (nothing-look l g d e)) (λ l. nothing-target l g d e iterable)
+    iterates-nil e = iterator-refused No.NilTarget 0 (λ l. rw (nil-look l g d e)) (λ l. nil-target l g d e iterable)
+
+    pub iterates-dead : f ≡ F.Dead → Performs (Calls.new-iter source) t (madeIs (Read.Refused No.DeadReference)) t
+    unfolding keyTypeOf numberOf
+    iterates-dead e = iterator-refused No.DeadReference 0 (λ l. rw (dead-look l g d e)) (λ l. dead-target l g d e iterable)
 
     pub iterates-wrong : f ≡ F.Wrong → Performs (Calls.new-iter source) t (madeIs (Read.Refused No.OtherKind)) t
     unfolding keyTypeOf numberOf

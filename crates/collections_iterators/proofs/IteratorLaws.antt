@@ -32,7 +32,7 @@ use Rattle.heap.specs.Locating.{Locates, Ranks}
 use Rattle.heap.specs.State.{State, modelOf}
 use Rattle.heap.specs.Good.{Good}
 use Rattle.heap.specs.Promise.{Reads}
-use Rattle.heap.proofs.CallLaws.{row-read}
+use Rattle.heap.proofs.CallLaws.{row-array, row-read}
 use Rattle.heap.proofs.KindLaws.{says-iterator}
 use Rattle.heap.proofs.ReachLaws.{located-at, scalars-fit}
 use Rattle.heap.proofs.ReadLaws.{reads-iterator}
@@ -94,7 +94,7 @@ module _ {t : State} {w i : ℕ} {r : Located} (g : Good t) (d : Locates (t .slo
       unfolding terms uncharged rawAt
       cursor-is l =
           reads-iterator l nothing (λ y. cursorReply y (look (viewOf (modelOf l t)) (y .source))) (located-at g d e)
-          ∙ rw (← a) (cursor-reply _ (look (viewOf (modelOf l t)) (h .value)) ∙ rw (row-read l g k, p))
+          ∙ rw (← a) (cursor-reply _ (look (viewOf (modelOf l t)) (h .value)) ∙ rw (← row-array (viewOf (modelOf l t)) (h .value), row-read l g k, p))
 
       pub cursor-index : n ≡ 6 → Reads (Calls.iter-cursor w) t (answered (array-cursor (x .position)))
       unfolding terms effect uncharged
@@ -104,7 +104,7 @@ module _ {t : State} {w i : ℕ} {r : Located} (g : Good t) (d : Locates (t .slo
       unfolding terms effect uncharged
       cursor-map z y = row-answered g record { effect-is = λ l. refl; terms-are = λ l. refl } says-iterator (located-at g d e) (λ l. cursor-is l ∙ rw (eqb-no n 6 z, y))
 
--- ---- 1 and 2
+-- ---- 1, 11 and 2
 
 module _ {t : State} {w : ℕ} {r : Located} {q : Refusal} (g : Good t) (d : Locates (t .slots) (t .heap .fresh) w 10 r) (e : r ≡ L.Refused q) where
   pub source-refused : Reads (Calls.iter-source w) t (readingIs (Read.Refused q))

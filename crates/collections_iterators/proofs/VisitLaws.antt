@@ -52,7 +52,7 @@ use Rattle.heap.specs.State.{State, modelOf, moreOf, rawOf, withScalars}
 use Rattle.heap.specs.Good.{Good, SlotGood}
 use Rattle.heap.specs.Promise.{Performs}
 use Rattle.heap.proofs.KindLaws.{content-array, content-iterator, content-map, row-of-content, says-iterator}
-use Rattle.heap.proofs.ReachLaws.{found-reached, located-at, nothing-look, reached-look, scalars-fit, wrong-look}
+use Rattle.heap.proofs.ReachLaws.{dead-look, found-reached, located-at, nil-look, reached-look, scalars-fit, wrong-look}
 use Rattle.heap.proofs.ReadLaws.{object-passes, object-refused, reads-iterator}
 use Rattle.heap.proofs.StepLaws.{own-scalars, touched-scalars}
 use Rattle.heap.proofs.StoreLaws as StoreLaws
@@ -203,13 +203,19 @@ module _ {t : State} {source : ℕ} {f : FoundSlot} (g : Good t) (d : Finds (t .
       rw (eh, ey) record { good = s .0; region = g .laid .inside j (o .within); epoch = s .2 }
 
 module _ {t : State} {source : ℕ} {x : IteratorScalars} {f : FoundSlot} (g : Good t) (d : Finds (t .slots) (t .heap .fresh) source f) (z : x .ended ≡ 0) where
-  pub visits-nothing : {r : Visit} → f ≡ F.Nothing → x .epoch < 4294967296 → Ends x r → Visits t source x r
+  -- a source that is nowhere
+  visits-nowhere : {r : Visit} → ((l : Layout) → look (viewOf (modelOf l t)) source ≡ none) → x .epoch < 4294967296 → Ends x r → Visits t source x r
   unfolding visitSource
-  visits-nothing e u s = visit-going source (λ l keys. rw (nothing-look l g d e) (s .is source keys)) z (omega (arith, s .epoch))
+  visits-nowhere e u s = visit-going source (λ l keys. rw (e l) (s .is source keys)) z (omega (arith, s .epoch))
+
+  pub visits-nil : {r : Visit} → f ≡ F.Nil → x .epoch < 4294967296 → Ends x r → Visits t source x r
+  visits-nil e = visits-nowhere (λ l. nil-look l g d e)
+
+  pub visits-dead : {r : Visit} → f ≡ F.Dead → x .epoch < 4294967296 → Ends x r → Visits t source x r
+  visits-dead e = visits-nowhere (λ l. dead-look l g d e)
 
   pub visits-wrong : {r : Visit} → f ≡ F.Wrong → x .epoch < 4294967296 → Ends x r → Visits t source x r
-  unfolding visitSource
-  visits-wrong e u s = visit-going source (λ l keys. rw (wrong-look l g d e) (s .is source keys)) z (omega (arith, s .epoch))
+  visits-wrong e = visits-nowhere (λ l. wrong-look l g d e)
 
   module _ {j : ℕ} {h : Header} (e : f ≡ F.At j) (eh : h ≡ headerAt (t .slots) j) where
     pub visits-array : {r : Visit} → h .kind ≡ 6 → VisitsArray t h x r → Visits t source x r

@@ -222,7 +222,8 @@ fn advance(
         };
     }
     match heap_slots::find(slots, heap.fresh, source) {
-        FoundSlot::Nothing => ended(x),
+        FoundSlot::Nil => ended(x),
+        FoundSlot::Dead => ended(x),
         FoundSlot::Wrong => ended(x),
         FoundSlot::At(j) => {
             let h = heap_slots::read_header(slots, j);
@@ -437,9 +438,13 @@ pub fn new_iter(
     ensures { λ r. ⌜ Performs (Calls.new-iter source) (before heap slots scalars list directory cells) (madeIs (r .answer)) (after (r .heap) slots scalars list directory cells) ⌝ }
 {
     match heap_slots::find(slots, heap.fresh, source) {
-        FoundSlot::Nothing => Made {
+        FoundSlot::Nil => Made {
             heap,
-            answer: Reading::Refused(Refusal::ReachesNothing),
+            answer: Reading::Refused(Refusal::NilTarget),
+        },
+        FoundSlot::Dead => Made {
+            heap,
+            answer: Reading::Refused(Refusal::DeadReference),
         },
         FoundSlot::Wrong => Made {
             heap,

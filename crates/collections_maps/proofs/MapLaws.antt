@@ -281,7 +281,7 @@ module _ {t : State} {w i : ℕ} {x : MapScalars} {r : Located} (g : Good t) (d 
   noted-some z k =
       row-answered g record { effect-is = λ l. refl; terms-are = λ l. refl } says-map (located-at g d e) (λ l. ap noted (noted-is l ∙ rw (eqb-no (x .known) 0 z, k)))
 
--- ---- 1 and 2
+-- ---- 1, 11 and 2
 
 module _ {t : State} {w : ℕ} {r : Located} {q : Refusal} (g : Good t) (d : Locates (t .slots) (t .heap .fresh) w 7 r) (e : r ≡ L.Refused q) where
   pub live-refused : Reads (Calls.live-count w) t (readingIs (Read.Refused q))

@@ -39,13 +39,14 @@ use Rattle.collector_marking.specs.Children.{hit, slotIn, children, word
 
 missed-none : (n u : ℕ) → slotIn n (missed u) ≡ n
 unfolding missed
-missed-none n u = go (leb 131072 u) (eqb u 1) (eqb u 2)
+missed-none n u = go (leb 131072 u) (leb 65536 u) (eqb u 1) (eqb u 2)
   where
-    go : (a b c : Bool) → slotIn n (pick a F.Wrong (pick b F.Wrong (pick c F.Wrong F.Nothing))) ≡ n
-    go true b c = refl
-    go false true c = refl
-    go false false true = refl
-    go false false false = refl
+    go : (a r b c : Bool) → slotIn n (pick a F.Wrong (pick r F.Dead (pick b F.Wrong (pick c F.Wrong F.Nil)))) ≡ n
+    go true r b c = refl
+    go false true b c = refl
+    go false false true c = refl
+    go false false false true = refl
+    go false false false false = refl
 
 pub hit-outside : (s : List ℕ) (n w : ℕ) → n ≤ w % SPAN → hit s n w ≡ n
 unfolding hit hitFirst

@@ -16,7 +16,8 @@ use Rattle.heap.specs.Kinds.{contentOf}
 
 abbrev pub slotIn : ℕ → FoundSlot → ℕ
 slotIn n (F.At i) = i
-slotIn n F.Nothing = n
+slotIn n F.Nil = n
+slotIn n F.Dead = n
 slotIn n F.Wrong = n
 
 -- "`get` needs equal tag and a present object"; n where the word reaches none of the first n slots

@@ -1,7 +1,7 @@
 -- The promises of the heap's own calls, one law for each answer. Assumes nothing.
 use Prim.Native.Nat.{ℕ, _/_, _≤_}
 use mathlib.Core.Path.{_≡_, refl, ap, sym, _∙_, fun-ext}
-use mathlib.Core.Logic.{_≢_}
+use mathlib.Core.Logic.{_≢_, inl, inr}
 use mathlib.Core.Bool.{Bool, true, false, cond}
 use mathlib.Core.List.{[]}
 use mathlib.Core.Option.{Option, none, some}
@@ -12,6 +12,7 @@ use lib.Ieee.{Float}
 use Rattle.words.specs.Word.{decodeWord, floatBase, intBase, isBoxWord, isRefWord, lowRaw, refBase, refSlot, refTag}
 use Rattle.words.specs.Word as Words
 use Rattle.words.specs.WordLaws.{and-left, and-right, decode-float-range, decode-int-range, decode-low-range, ref-reads}
+use Rattle.words.specs.declared.Raw.{Raw}
 use Rattle.words.specs.declared.Raw.the-variants as R
 use Rattle.account.specs.declared.Account.{Account}
 use Rattle.account.specs.declared.Charged.{Charged}
@@ -20,7 +21,7 @@ use Rattle.account.specs.Account.{chargeIs, chargeOf, charged, fits, wantsColle
 use Rattle.account.specs.AccountLaws.{charge-next, charge-over}
 use Rattle.heap_slots.specs.Header.{headerAt}
 use Rattle.heap_slots.specs.Lookup.{Finds, hitFirst}
-use Rattle.heap_slots.proofs.LookupLaws.{finds-so}
+use Rattle.heap_slots.proofs.LookupLaws.{finds-so, found-wrong}
 use Rattle.heap_slots.specs.declared.FoundSlot.{FoundSlot}
 use Rattle.heap_slots.specs.declared.FoundSlot.the-variants as F
 use Rattle.heap_slots.specs.declared.Header.{Header}
@@ -34,12 +35,12 @@ use Rattle.model.specs.Calls as Calls
 use Rattle.model.specs.Calls.{Call, effect, same}
 use Rattle.model.specs.Content.{Content, array, box, cell, closure, coroutine, error, integer, iterator, map-object, row, string, struct}
 use Rattle.model.specs.Reference.{refIn, refOf}
-use Rattle.model.specs.View.{View, derefAs, look, unboxed}
+use Rattle.model.specs.View.{View, derefAs, look, lookRef, unboxed}
 use Rattle.model.specs.View as View
 use Rattle.model.specs.Replies.{Reply, nothing, number, truth}
 use Rattle.model.specs.Model.{viewOf}
 use Rattle.model.specs.Refusals.{added, slotless, target, unless, kindTest}
-use Rattle.model.specs.Terms.{a-box, charging, kindOf, readOr, uncharged, terms}
+use Rattle.model.specs.Terms.{a-box, charging, kindOf, readOr, rowOf, uncharged, terms}
 use Rattle.model.specs.Step.{accept, accountAfter, answerOf, collectionsAfter, finish, judged, paid, step}
 use Rattle.model.specs.Slots.{apply}
 use Rattle.heap.specs.declared.Heap.{Heap}
@@ -48,14 +49,13 @@ use Rattle.heap.specs.declared.Located.the-variants as L
 use Rattle.heap.specs.declared.Refusal.{Refusal}
 use Rattle.heap.specs.declared.Refusal.the-variants as No
 use Rattle.heap.specs.Answers.{answered, refused}
-use Rattle.heap.specs.Kinds.{LAST-ROW}
-use Rattle.heap.specs.Locating.{Locates, Ranks, rowBy}
+use Rattle.heap.specs.Locating.{Locates, Ranks, RowOrDead, rowBy}
 use Rattle.heap.specs.State.{State, modelOf, moreOf, rawOf, slotOf, withHeap, withRegions}
 use Rattle.heap.specs.Good.{Good}
 use Rattle.heap.specs.Promise.{Performs, Reads}
 use Rattle.heap.proofs.KindLaws.{content-box, row-of-content, says-box}
-use Rattle.heap.proofs.SlotLaws.{cells-used, counts-present}
-use Rattle.heap.proofs.ReachLaws.{found-reached, located-at, located-refused, nothing-look, reached-look, wrong-look}
+use Rattle.heap.proofs.SlotLaws.{cells-used, counts-present, halves}
+use Rattle.heap.proofs.ReachLaws.{found-reached, located-at, located-refused, dead-look, dead-reads, nil-reads, reached-look}
 use Rattle.heap.proofs.DoesLaws.{does-5, does-answered, first-none, number-not-0}
 use Rattle.heap.proofs.ReadLaws.{reads-content}
 
@@ -96,28 +96,47 @@ wants-read {extra = extra} g e = reads-so (Calls.wants-gc extra) g (λ l. refl) 
 
 -- ---- `get`
 
-row-by : (l : Layout) {t : State} {w : ℕ} (f : FoundSlot) → Good t → Finds (t .slots) (t .heap .fresh) w f → readOr 0 row (look (viewOf (modelOf l t)) w) ≡ rowBy (t .slots) f
-unfolding rowBy readOr rawAt
+-- whether it is an array can be read off the row: 15 is no object's
+pub row-array : (v : View) (w : ℕ) → eqb (rowOf v w) 6 ≡ eqb (readOr 0 row (look v w)) 6
+unfolding rowOf readOr look lookRef refIn
+row-array v w = go (decodeWord w) refl
+  where
+    at : (o : Option Content) → eqb (readOr 15 row o) 6 ≡ eqb (readOr 0 row o) 6
+    at none = refl
+    at (some c) = refl
+
+    go : (x : Raw) → decodeWord w ≡ x → eqb (rowOf v w) 6 ≡ eqb (readOr 0 row (look v w)) 6
+    go R.Nil e = rw e
+    go (R.Bool b) e = rw e
+    go (R.Int z) e = rw e
+    go (R.Float x) e = rw e
+    go (R.Char k) e = rw e
+    go (R.Ref s t) e = rw e (at (lookRef v (some (refOf s t))))
+
+row-by : (l : Layout) {t : State} {w : ℕ} (f : FoundSlot) → Good t → Finds (t .slots) (t .heap .fresh) w f → rowOf (viewOf (modelOf l t)) w ≡ rowBy (t .slots) f
+unfolding rowOf rowBy readOr rawAt
 row-by l {t} {w} (F.At i) g d =
     let h = found-reached g d refl in
-    reads-content l 0 row h ∙ row-of-content (rawOf t i) (moreOf t i) (omega (arith, h .present)) (g .each i (h .within) .kind)
-row-by l F.Nothing g d = rw (nothing-look l g d refl)
-row-by l F.Wrong g d = rw (wrong-look l g d refl)
+    rw (h .reads) (reads-content l 15 row h ∙ row-of-content (rawOf t i) (moreOf t i) (omega (arith, h .present)) (g .each i (h .within) .kind))
+row-by l F.Nil g d = rw (nil-reads l g d refl)
+row-by l F.Dead g d = rw (dead-reads l g d refl, dead-look l g d refl)
+row-by l F.Wrong g d = found-wrong (halves g) d 0 0 _ refl
 
-pub row-read : (l : Layout) {t : State} {w r : ℕ} → Good t → Ranks (t .slots) (t .heap .fresh) w r → readOr 0 row (look (viewOf (modelOf l t)) w) ≡ r
+pub row-read : (l : Layout) {t : State} {w r : ℕ} → Good t → Ranks (t .slots) (t .heap .fresh) w r → rowOf (viewOf (modelOf l t)) w ≡ r
 row-read l {t} {w} g d = row-by l (hitFirst (t .slots) (t .heap .fresh) w) g (finds-so refl) ∙ sym (d .is)
 
 pub get-read : {t : State} {w r : ℕ} → Good t → Ranks (t .slots) (t .heap .fresh) w r → Reads (Calls.get w) t (answered (number r))
 unfolding terms effect
 get-read {w = w} g d = reads-so (Calls.get w) g (λ l. refl) (λ l. ap (λ (n : ℕ). uncharged [] (number n)) (row-read l g d))
 
-row-max-by : {t : State} {w : ℕ} (f : FoundSlot) → Good t → Finds (t .slots) (t .heap .fresh) w f → rowBy (t .slots) f ≤ LAST-ROW
+row-max-by : {t : State} {w : ℕ} (f : FoundSlot) → Good t → Finds (t .slots) (t .heap .fresh) w f → RowOrDead (rowBy (t .slots) f)
 unfolding rowBy rawAt
-row-max-by (F.At i) g d = g .each i (found-reached g d refl .within) .kind
-row-max-by F.Nothing g d = omega arith
-row-max-by F.Wrong g d = omega arith
+row-max-by (F.At i) g d = inl (g .each i (found-reached g d refl .within) .kind)
+row-max-by F.Nil g d = inl (omega arith)
+row-max-by F.Dead g d = inr refl
+row-max-by F.Wrong g d = inl (omega arith)
 
-pub row-max : {t : State} {w r : ℕ} → Good t → Ranks (t .slots) (t .heap .fresh) w r → r ≤ LAST-ROW
+pub row-max : {t : State} {w r : ℕ} → Good t → Ranks (t .slots) (t .heap .fresh) w r → RowOrDead r
 row-max {t} {w} g d = rw (d .is) (row-max-by (hitFirst (t .slots) (t .heap .fresh) w) g (finds-so refl))
 
 -- ---- `kind` of heap.rs
@@ -148,8 +167,8 @@ module _ {t : State} {w : ℕ} (g : Good t) where
   kind-character e = kind-read (λ l. rw (← e))
 
   pub kind-object : {slot tag r : ℕ} → R.Ref slot tag ≡ decodeWord w → Ranks (t .slots) (t .heap .fresh) w r → Reads (Calls.kind-of w) t (answered (number r))
-  unfolding kindOf
-  kind-object e d = kind-read (λ l. rw (← e) (row-read l g d))
+  unfolding kindOf rowOf
+  kind-object e d = kind-read (λ l. rw (← e) (rw (← e) at (row-read l g d)))
 
 -- ---- a word seen through a box
 

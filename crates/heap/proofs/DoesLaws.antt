@@ -30,7 +30,8 @@ use Rattle.heap.proofs.SlotLaws.{cells-used}
 
 pub number-not-0 : (q : Refusal) → numberOf q ≢ 0
 unfolding numberOf
-number-not-0 No.ReachesNothing e = omega arith
+number-not-0 No.NilTarget e = omega arith
+number-not-0 No.DeadReference e = omega arith
 number-not-0 No.OtherKind e = omega arith
 number-not-0 No.Outside e = omega arith
 number-not-0 No.BadType e = omega arith

@@ -15,10 +15,10 @@ use Rattle.heap_slots.specs.Lookup.{Finds, hitFirst}
 use Rattle.heap_slots.specs.declared.FoundSlot.{FoundSlot}
 use Rattle.heap_slots.specs.declared.FoundSlot.the-variants as F
 use Rattle.heap_slots.proofs.Cases.{by-cases, lt-or-le, same-or-not}
-use Rattle.heap_slots.proofs.LookupLaws.{FoundNone, finds-so, found-at, found-nothing, found-wrong}
+use Rattle.heap_slots.proofs.LookupLaws.{FoundNone, finds-so, found-at, found-dead, found-nil, found-wrong}
 use Rattle.heap_cells.specs.Regions.{rawAt}
 use Rattle.history.proofs.Facts.{eqb-self, eqb-yes, leb-no, leb-yes}
-use Rattle.history.proofs.Judging.{look-no-slot, look-slot, target-missed, target-nil, target-reached}
+use Rattle.history.proofs.Judging.{look-no-slot, look-slot, target-dead, target-nil, target-reached}
 use Rattle.layout.specs.Layout.{Layout}
 use Rattle.model.specs.Reference.{Ref, refIn, refOf}
 use Rattle.model.specs.Content.{Content}
@@ -30,7 +30,7 @@ use Rattle.model.specs.Refusals.{target, unless}
 use Rattle.heap.specs.declared.Located.{Located}
 use Rattle.heap.specs.declared.Located.the-variants.{At, Refused}
 use Rattle.heap.specs.declared.Refusal.{Refusal}
-use Rattle.heap.specs.declared.Refusal.the-variants.{ReachesNothing, OtherKind}
+use Rattle.heap.specs.declared.Refusal.the-variants.{DeadReference, NilTarget, OtherKind}
 use Rattle.heap.specs.Answers.{numberOf}
 use Rattle.heap.specs.Kinds.{contentOf, roomOf}
 use Rattle.heap.specs.Locating.{Locates, locatedBy, locatedIn, pick}
@@ -138,19 +138,25 @@ module _ (l : Layout) {t : State} {w : ℕ} (g : Good t) where
       (λ p q. m .none lt ne (half-is (rawOf t (refSlot w) .half) (refTag w) (g .each (refSlot w) lt .half-low) (g .each (refSlot w) lt .half-high) (m .tag) p q))))))
       (λ ge. rw (slot-unused t (refSlot w) ge))
 
-  -- nil, or a reference that misses
-  pub nothing-look : {f : FoundSlot} → Finds (t .slots) (t .heap .fresh) w f → f ≡ F.Nothing → look (viewOf (modelOf l t)) w ≡ none
-  unfolding refIn
-  nothing-look d e =
-      by-cases (found-nothing (halves g) d e)
-      (λ nil. look-no-slot (viewOf (modelOf l t)) w (rw nil))
-      missed-look
+  pub nil-reads : {f : FoundSlot} → Finds (t .slots) (t .heap .fresh) w f → f ≡ F.Nil → decodeWord w ≡ R.Nil
+  nil-reads d e = found-nil (halves g) d e
 
-  pub nothing-target : {f : FoundSlot} → Finds (t .slots) (t .heap .fresh) w f → f ≡ F.Nothing → (is : Content → Bool) → target (viewOf (modelOf l t)) is w ≡ 1
-  nothing-target d e is =
-      by-cases (found-nothing (halves g) d e)
-      (λ nil. target-nil (viewOf (modelOf l t)) is w nil)
-      (λ m. target-missed (viewOf (modelOf l t)) is w (refSlot w) (refTag w) (m .reads) (missed-look m))
+  pub nil-look : {f : FoundSlot} → Finds (t .slots) (t .heap .fresh) w f → f ≡ F.Nil → look (viewOf (modelOf l t)) w ≡ none
+  unfolding refIn
+  nil-look d e = look-no-slot (viewOf (modelOf l t)) w (rw (nil-reads d e))
+
+  pub nil-target : {f : FoundSlot} → Finds (t .slots) (t .heap .fresh) w f → f ≡ F.Nil → (is : Content → Bool) → target (viewOf (modelOf l t)) is w ≡ 1
+  nil-target d e is = target-nil (viewOf (modelOf l t)) is w (nil-reads d e)
+
+  -- a reference that misses
+  pub dead-reads : {f : FoundSlot} → Finds (t .slots) (t .heap .fresh) w f → f ≡ F.Dead → decodeWord w ≡ R.Ref (refSlot w) (refTag w)
+  dead-reads d e = found-dead (halves g) d e .reads
+
+  pub dead-look : {f : FoundSlot} → Finds (t .slots) (t .heap .fresh) w f → f ≡ F.Dead → look (viewOf (modelOf l t)) w ≡ none
+  dead-look d e = missed-look (found-dead (halves g) d e)
+
+  pub dead-target : {f : FoundSlot} → Finds (t .slots) (t .heap .fresh) w f → f ≡ F.Dead → (is : Content → Bool) → target (viewOf (modelOf l t)) is w ≡ 11
+  dead-target d e is = target-dead (viewOf (modelOf l t)) is w (refSlot w) (refTag w) (dead-reads d e) (dead-look d e)
 
   -- neither nil nor a reference
   pub wrong-look : {f : FoundSlot} → Finds (t .slots) (t .heap .fresh) w f → f ≡ F.Wrong → look (viewOf (modelOf l t)) w ≡ none
@@ -191,7 +197,8 @@ at-by {t} {kind = kind} (F.At j) g d x =
     let p = picked-at (eqb (headerAt (t .slots) j .kind) kind) x in
     let e : headerAt (t .slots) j .kind ≡ kind = eqb-true _ _ (p .0) in
     record { reached = found-reached g d (ap F.At (p .1)); kind-is = rw (p .1) at e }
-at-by F.Nothing g d x = absurd (at-refused (sym x))
+at-by F.Nil g d x = absurd (at-refused (sym x))
+at-by F.Dead g d x = absurd (at-refused (sym x))
 at-by F.Wrong g d x = absurd (at-refused (sym x))
 
 refused-by : (l : Layout) {t : State} {w kind : ℕ} {is : Content → Bool} {q : Refusal} → Says is kind → (f : FoundSlot) → Good t → Finds (t .slots) (t .heap .fresh) w f → locatedBy (t .slots) kind f ≡ Refused q →
@@ -202,7 +209,8 @@ refused-by l {t} {kind = kind} {is = is} s (F.At j) g d x =
     let h = found-reached g d refl in
     let k = g .each j (h .within) .kind in
     rw (← p .1) (reached-target h l is ∙ rw (kind-test (rawOf t j) (moreOf t j) (omega (arith, h .present)) k s ∙ p .0))
-refused-by l {is = is} {q = q} s F.Nothing g d x = let e : ReachesNothing ≡ q = (cc) in rw (← e) (nothing-target l g d refl is)
+refused-by l {is = is} {q = q} s F.Nil g d x = let e : NilTarget ≡ q = (cc) in rw (← e) (nil-target l g d refl is)
+refused-by l {is = is} {q = q} s F.Dead g d x = let e : DeadReference ≡ q = (cc) in rw (← e) (dead-target l g d refl is)
 refused-by l {is = is} {q = q} s F.Wrong g d x = let e : OtherKind ≡ q = (cc) in rw (← e) (wrong-target l g d refl is)
 
 module _ {t : State} {w kind : ℕ} {r : Located} (g : Good t) (d : Locates (t .slots) (t .heap .fresh) w kind r) where

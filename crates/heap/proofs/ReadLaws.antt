@@ -35,7 +35,7 @@ use Rattle.heap.proofs.DoesLaws.{does-answered, does-own, first-none, f
 -- ---- the promise of a reading
 
 module _ (l : Layout) {t : State} (g : Good t) (k : Call) where
-  -- 1 or 2
+  -- 1, 11 or 2
   pub object-refused : {w kind : ℕ} {r : Located} {q : Refusal} {is : Content → Bool} {rest : List ℕ} {x : Lent} → Locates (t .slots) (t .heap .fresh) w kind r → r ≡ L.Refused q → Says is kind →
       (terms (modelOf l t) k) .refusals ≡ target (viewOf (modelOf l t)) is w ∷ rest → (terms (modelOf l t) k) .lent-before ≡ x → Does l k t record { refusal = numberOf q; answer = reply nothing; lent = x } t
   object-refused {q = q} {rest = rest} d e s h b = does-own l g k q b (rw h (first-refuses rest q (located-refused g d e l s)))

@@ -1,6 +1,6 @@
--- What the answers of the calls mean: document 01's number for each refusal, and the answer of the model.
+-- What the answers of the calls mean: the number of each refusal, and the answer of the model.
 use Prim.Native.Nat.{ℕ}
-use Rattle.heap_slots.specs.Kinds.{ARRAY, BOX, CELL, COROUTINE, ERROR, FUNCTION, INTEGER, ITERATOR, MAP, NONE, STRING, STRUCT}
+use Rattle.heap_slots.specs.Kinds.{ARRAY, BOX, CELL, COROUTINE, DEAD, ERROR, FUNCTION, INTEGER, ITERATOR, MAP, NONE, STRING, STRUCT}
 use Rattle.model.specs.Replies.{Reply, nothing, number, signed, truth, reference-made, reply, no-memory}
 use Rattle.history.proofs.Lift.{Seen}
 use Rattle.heap.specs.declared.Refusal.{Refusal}
@@ -16,9 +16,9 @@ use Rattle.heap.specs.declared.Kind.{Kind}
 use Rattle.heap.specs.declared.Kind.the-variants as K
 use Rattle.heap.specs.declared.Done.the-variants as Do
 
--- document 01, "Who can be turned back"
+-- document 01, "Who can be turned back"; document 02, (i)
 unfoldable pub numberOf : Refusal → ℕ
-numberOf No.ReachesNothing = 1
+numberOf No.NilTarget = 1
 numberOf No.OtherKind = 2
 numberOf No.Outside = 3
 numberOf No.BadType = 4
@@ -28,6 +28,7 @@ numberOf No.NoCells = 7
 numberOf No.TooShort = 8
 numberOf No.Spent = 9
 numberOf No.BadOpening = 10
+numberOf No.DeadReference = 11
 
 -- "returned: the number, no word"
 abbrev pub refused : Refusal → Seen
@@ -61,7 +62,7 @@ unfoldable pub madeIs : Reading → Seen
 madeIs (Read.Is w) = record { refusal = 0; answer = reference-made w; lent = no-memory }
 madeIs (Read.Refused q) = refused q
 
--- `kind` of heap.rs: nil is 0, an object's kind its row, 12 truth, 13 float, 14 character
+-- `kind` of heap.rs: nil is 0, an object's kind its row, 12 truth, 13 float, 14 character; document 02, (i): 15 dead reference
 unfoldable pub kindNumber : Kind → ℕ
 kindNumber K.Nil = NONE
 kindNumber K.String = STRING
@@ -78,3 +79,4 @@ kindNumber K.Coroutine = COROUTINE
 kindNumber K.Truth = 12
 kindNumber K.Float = 13
 kindNumber K.Character = 14
+kindNumber K.Dead = DEAD

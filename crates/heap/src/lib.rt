@@ -12,7 +12,7 @@ ghost use Rattle.heap_slots.specs.Limits.{SLOTS-MAX};
 ghost use Rattle.model.specs.Calls as Calls;
 ghost use Rattle.model.specs.Replies.{nothing, number, truth};
 ghost use Rattle.heap.specs.Answers.{answered, doneIs, kindNumber, numberOf};
-ghost use Rattle.heap.specs.Kinds.{LAST-ROW};
+ghost use Rattle.heap.specs.Locating.{RowOrDead};
 ghost use Rattle.heap.specs.State.{before, lent};
 ghost use Rattle.heap.specs.Good.{Good};
 ghost use Rattle.model.specs.Opening.{between, sizesFit};
@@ -44,9 +44,9 @@ pub struct Heap {
     pub freed: u64,
 }
 
-// Document 01, "Who can be turned back".
+// Document 01, "Who can be turned back"; document 02, (i): DeadReference.
 pub enum Refusal {
-    ReachesNothing,
+    NilTarget,
     OtherKind,
     Outside,
     BadType,
@@ -56,14 +56,15 @@ pub enum Refusal {
     TooShort,
     Spent,
     BadOpening,
+    DeadReference,
 }
 
-// Document 01's number, "Who can be turned back".
+// Its number.
 pub fn number_of(q: Refusal) -> u64
     ensures { λ r. ⌜ r ≡ numberOf q ⌝ }
 {
     match q {
-        Refusal::ReachesNothing => 1,
+        Refusal::NilTarget => 1,
         Refusal::OtherKind => 2,
         Refusal::Outside => 3,
         Refusal::BadType => 4,
@@ -73,6 +74,7 @@ pub fn number_of(q: Refusal) -> u64
         Refusal::TooShort => 8,
         Refusal::Spent => 9,
         Refusal::BadOpening => 10,
+        Refusal::DeadReference => 11,
     }
 }
 
@@ -133,6 +135,7 @@ pub enum Kind {
     Truth,
     Float,
     Character,
+    Dead,
 }
 
 pub enum Located {
@@ -140,7 +143,7 @@ pub enum Located {
     Refused(Refusal),
 }
 
-// The row of the object that a word reaches, 0 for none.
+// The row of the object that a word reaches; 15 for a dead reference, 0 for any other word.
 pub fn get(
     heap: Heap,
     slots: &[u64],
@@ -181,9 +184,9 @@ pub fn deref(
     }
 }
 
-// The kind of an object's row; 0 stands for no object.
+// The kind of what `row_at` answers.
 fn kind_at(row: u64) -> Kind
-    requires { ⌜ row ≤ LAST-ROW ⌝ }
+    requires { ⌜ RowOrDead row ⌝ }
     ensures { λ r. ⌜ kindNumber r ≡ row ⌝ }
 {
     match row {
@@ -198,11 +201,12 @@ fn kind_at(row: u64) -> Kind
         kinds::FUNCTION => Kind::Function,
         kinds::ITERATOR => Kind::Iterator,
         kinds::COROUTINE => Kind::Coroutine,
+        kinds::DEAD => Kind::Dead,
         _ => Kind::Nil,
     }
 }
 
-// `kind` of heap.rs: nil also for a reference that reaches nothing.
+// `kind` of heap.rs, with a kind of its own for a dead reference.
 pub fn kind_of(
     heap: Heap,
     slots: &[u64],

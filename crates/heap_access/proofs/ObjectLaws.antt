@@ -63,7 +63,8 @@ here-by {s} {kind = kind} (F.At j) d x =
     let p = picked-here (eqb (headerAt s j .kind) kind) x in
     let e : headerAt s j .kind ≡ kind = eqb-true _ _ (p .0) in
     record { within = found-within d (ap F.At (p .1)); kind-is = rw (p .1) at e }
-here-by F.Nothing d x = absurd (at-refused (sym x))
+here-by F.Nil d x = absurd (at-refused (sym x))
+here-by F.Dead d x = absurd (at-refused (sym x))
 here-by F.Wrong d x = absurd (at-refused (sym x))
 
 pub located-here : {s : List ℕ} {n w kind i : ℕ} {r : Located} → Locates s n w kind r → r ≡ L.At i → Here s n kind i

@@ -13,7 +13,7 @@ use Rattle.words.specs.Word.{byKind, decodeWord, lowRaw, intBase, refSlot, refT
 use Rattle.words.specs.WordLaws.{decode-int-range, decode-float-range, decode-ref-range, decode-low-range}
 use Rattle.words.specs.declared.Raw.the-variants as R
 use Rattle.heap_slots.specs.declared.FoundSlot.{FoundSlot}
-use Rattle.heap_slots.specs.declared.FoundSlot.the-variants.{At, Nothing, Wrong}
+use Rattle.heap_slots.specs.declared.FoundSlot.the-variants.{At, Dead, Nil, Wrong}
 use Rattle.heap_slots.specs.Header.{headerAt, setHeader}
 use Rattle.heap_slots.specs.declared.Header.{Header}
 use Rattle.heap_slots.specs.Lookup.{pick, missed, missNumber, foundNumber, hitFirst, hits, reachedIn, foundBy, Finds, Halves}
@@ -24,13 +24,14 @@ use Rattle.heap_slots.proofs.HeaderLaws.{headerAt-same, headerAt-other}
 
 number-missed : (u : ℕ) → foundNumber (missed u) ≡ missNumber u
 unfolding missed missNumber foundNumber
-number-missed u = go (leb 131072 u) (eqb u 1) (eqb u 2)
+number-missed u = go (leb 131072 u) (leb 65536 u) (eqb u 1) (eqb u 2)
   where
-    go : (a b c : Bool) → foundNumber (pick a Wrong (pick b Wrong (pick c Wrong Nothing))) ≡ cond (a || (b || c)) 2 1
-    go true b c = refl
-    go false true c = refl
-    go false false true = refl
-    go false false false = refl
+    go : (a r b c : Bool) → foundNumber (pick a Wrong (pick r Dead (pick b Wrong (pick c Wrong Nil)))) ≡ cond a 2 (cond r 11 (cond (b || c) 2 1))
+    go true r b c = refl
+    go false true b c = refl
+    go false false true c = refl
+    go false false false true = refl
+    go false false false false = refl
 
 number-first : (s : List ℕ) (n w : ℕ) → foundNumber (hitFirst s n w) ≡ cond (hits s n w) 0 (missNumber (w / 4294967296))
 unfolding hitFirst hits foundNumber
@@ -65,7 +66,7 @@ half-range {s} {n} hs u i p q r =
     let k : getD s (i * 8 + 1) 0 ≡ 0 → ⊥ = eqb-false _ _ r in
     (omega (arith, hs .low i l k), omega (arith, hs .high i l k))
 
-low-found : (a b : Bool) (t : Bool) (k : ℕ) (f : ℕ → ℕ → FoundSlot) → byKind Nothing (λ b. Wrong) (λ z. Wrong) (λ x. Wrong) (λ k. Wrong) f (cond a (R.Bool t) (cond b (R.Char k) R.Nil)) ≡ pick a Wrong (pick b Wrong Nothing)
+low-found : (a b : Bool) (t : Bool) (k : ℕ) (f : ℕ → ℕ → FoundSlot) → byKind Nil (λ b. Wrong) (λ z. Wrong) (λ x. Wrong) (λ k. Wrong) f (cond a (R.Bool t) (cond b (R.Char k) R.Nil)) ≡ pick a Wrong (pick b Wrong Nil)
 low-found true b t k f = refl
 low-found false true t k f = refl
 low-found false false t k f = refl
@@ -90,14 +91,14 @@ module _ {s : List ℕ} {n : ℕ} (hs : Halves s n) (w : ℕ) where
   low-below : w / 4294967296 < 65536 → hitFirst s n w ≡ foundBy s n w
   unfolding missed foundBy lowRaw
   low-below h =
-      missing (inl h) ∙ simp (lt-leb 131072 (w / 4294967296) (omega arith))
+      missing (inl h) ∙ simp (lt-leb 131072 (w / 4294967296) (omega arith), lt-leb 65536 (w / 4294967296) h)
       (sym (rw (decode-low-range w (omega arith)) (low-found (eqb (w / 4294967296) 1) (eqb (w / 4294967296) 2) _ _ _)))
 
   ref-between : 65536 ≤ w / 4294967296 → w / 4294967296 < 131072 → hitFirst s n w ≡ foundBy s n w
   unfolding hitFirst missed foundBy reachedIn headerAt
   ref-between lo hi =
       let tag : 65536 + w / 4294967296 % 65536 ≡ w / 4294967296 = omega arith in
-      simp (lt-leb 131072 (w / 4294967296) hi, ne-eqb (w / 4294967296) 1 (λ h. omega (arith, h)), ne-eqb (w / 4294967296) 2 (λ h. omega (arith, h)))
+      simp (lt-leb 131072 (w / 4294967296) hi, le-leb 65536 (w / 4294967296) lo)
       (sym (rw (decode-ref-range w (omega arith) (omega arith), tag)))
 
   pub hit-first : hitFirst s n w ≡ foundBy s n w
@@ -125,17 +126,32 @@ pub record FoundNone (s : List ℕ) (n w : ℕ) : Type 0 where
 wrong-at : {i : ℕ} → Wrong ≡ At i → ⊥
 wrong-at e = let z : _≡_ {A = ℕ} 0 1 = cc in absurd (omega arith)
 
-nothing-at : {i : ℕ} → Nothing ≡ At i → ⊥
-nothing-at e = let z : _≡_ {A = ℕ} 0 1 = cc in absurd (omega arith)
+nil-at : {i : ℕ} → Nil ≡ At i → ⊥
+nil-at e = let z : _≡_ {A = ℕ} 0 1 = cc in absurd (omega arith)
 
-wrong-nothing : Wrong ≡ Nothing → ⊥
-wrong-nothing e = let z : _≡_ {A = ℕ} 0 1 = cc in absurd (omega arith)
+dead-at : {i : ℕ} → Dead ≡ At i → ⊥
+dead-at e = let z : _≡_ {A = ℕ} 0 1 = cc in absurd (omega arith)
 
-missed-at : (a b c : Bool) (i : ℕ) → pick a Wrong (pick b Wrong (pick c Wrong Nothing)) ≡ At i → ⊥
-missed-at true b c i e = wrong-at e
-missed-at false true c i e = wrong-at e
-missed-at false false true i e = wrong-at e
-missed-at false false false i e = nothing-at e
+wrong-nil : Wrong ≡ Nil → ⊥
+wrong-nil e = let z : _≡_ {A = ℕ} 0 1 = cc in absurd (omega arith)
+
+wrong-dead : Wrong ≡ Dead → ⊥
+wrong-dead e = let z : _≡_ {A = ℕ} 0 1 = cc in absurd (omega arith)
+
+dead-nil : Dead ≡ Nil → ⊥
+dead-nil e = let z : _≡_ {A = ℕ} 0 1 = cc in absurd (omega arith)
+
+-- what is missed is not found
+pub missed-at : (u : ℕ) {i : ℕ} → missed u ≡ At i → ⊥
+unfolding missed
+missed-at u {i} = go (leb 131072 u) (leb 65536 u) (eqb u 1) (eqb u 2)
+  where
+    go : (a r b c : Bool) → pick a Wrong (pick r Dead (pick b Wrong (pick c Wrong Nil))) ≡ At i → ⊥
+    go true r b c e = wrong-at e
+    go false true b c e = dead-at e
+    go false false true c e = wrong-at e
+    go false false false true e = wrong-at e
+    go false false false false e = nil-at e
 
 hit-at : (a b c : Bool) (m : FoundSlot) (j i : ℕ) → (m ≡ At i → ⊥) → pick a (pick b (pick c m (At j)) m) m ≡ At i → (a ≡ true) × (b ≡ true) × (c ≡ false) × (j ≡ i)
 hit-at true true true m j i z e = absurd (z e)
@@ -143,21 +159,32 @@ hit-at true true false m j i z e = (refl, refl, refl, (cc))
 hit-at true false c m j i z e = absurd (z e)
 hit-at false b c m j i z e = absurd (z e)
 
-low-nil : (a b t : Bool) (k : ℕ) → pick a Wrong (pick b Wrong Nothing) ≡ Nothing → cond a (R.Bool t) (cond b (R.Char k) R.Nil) ≡ R.Nil
-low-nil true b t k e = absurd (wrong-nothing e)
-low-nil false true t k e = absurd (wrong-nothing e)
+low-nil : (a b t : Bool) (k : ℕ) → pick a Wrong (pick b Wrong Nil) ≡ Nil → cond a (R.Bool t) (cond b (R.Char k) R.Nil) ≡ R.Nil
+low-nil true b t k e = absurd (wrong-nil e)
+low-nil false true t k e = absurd (wrong-nil e)
 low-nil false false t k e = refl
 
-low-wrong : {X : Type 0} (nil other : X) (ref : ℕ → ℕ → X) (a b t : Bool) (k : ℕ) → pick a Wrong (pick b Wrong Nothing) ≡ Wrong → byKind nil (λ b. other) (λ z. other) (λ x. other) (λ k. other) ref (cond a (R.Bool t) (cond b (R.Char k) R.Nil)) ≡ other
+low-dead : (a b : Bool) → pick a Wrong (pick b Wrong Nil) ≡ Dead → ⊥
+low-dead true b e = wrong-dead e
+low-dead false true e = wrong-dead e
+low-dead false false e = dead-nil (sym e)
+
+low-wrong : {X : Type 0} (nil other : X) (ref : ℕ → ℕ → X) (a b t : Bool) (k : ℕ) → pick a Wrong (pick b Wrong Nil) ≡ Wrong → byKind nil (λ b. other) (λ z. other) (λ x. other) (λ k. other) ref (cond a (R.Bool t) (cond b (R.Char k) R.Nil)) ≡ other
 low-wrong nil other ref true b t k e = refl
 low-wrong nil other ref false true t k e = refl
-low-wrong nil other ref false false t k e = absurd (wrong-nothing (sym e))
+low-wrong nil other ref false false t k e = absurd (wrong-nil (sym e))
 
-not-wrong : (a b c : Bool) (j : ℕ) → pick a (pick b (pick c Nothing (At j)) Nothing) Nothing ≡ Wrong → ⊥
-not-wrong true true true j e = wrong-nothing (sym e)
+not-wrong : (a b c : Bool) (j : ℕ) → pick a (pick b (pick c Dead (At j)) Dead) Dead ≡ Wrong → ⊥
+not-wrong true true true j e = wrong-dead (sym e)
 not-wrong true true false j e = wrong-at (sym e)
-not-wrong true false c j e = wrong-nothing (sym e)
-not-wrong false b c j e = wrong-nothing (sym e)
+not-wrong true false c j e = wrong-dead (sym e)
+not-wrong false b c j e = wrong-dead (sym e)
+
+not-nil : (a b c : Bool) (j : ℕ) → pick a (pick b (pick c Dead (At j)) Dead) Dead ≡ Nil → ⊥
+not-nil true true true j e = dead-nil e
+not-nil true true false j e = nil-at (sym e)
+not-nil true false c j e = dead-nil e
+not-nil false b c j e = dead-nil e
 
 module _ {s : List ℕ} {n w : ℕ} {f : FoundSlot} (hs : Halves s n) (fd : Finds s n w f) where
   pub found-at : {i : ℕ} → f ≡ At i → FoundAt s n w i
@@ -165,7 +192,7 @@ module _ {s : List ℕ} {n w : ℕ} {f : FoundSlot} (hs : Halves s n) (fd : Find
   found-at {i} e′ =
       let e = sym (fd .is) ∙ e′ in
       let h = hit-at (ltb (w % 4294967296) n) (eqb (getD s (w % 4294967296 * 8) 0) (w / 4294967296)) (eqb (getD s (w % 4294967296 * 8 + 1) 0) 0) (missed (w / 4294967296)) (w % 4294967296) i
-      (missed-at (leb 131072 (w / 4294967296)) (eqb (w / 4294967296) 1) (eqb (w / 4294967296) 2) i) e in
+      (missed-at (w / 4294967296)) e in
       let r = half-range hs (w / 4294967296) (w % 4294967296) (h .0) (h .1) (h .2) in
       let l : w % 4294967296 < n = ltb-true _ _ (h .0) in
       let k : getD s (w % 4294967296 * 8 + 1) 0 ≡ 0 → ⊥ = eqb-false _ _ (h .2) in
@@ -179,29 +206,44 @@ module _ {s : List ℕ} {n w : ℕ} {f : FoundSlot} (hs : Halves s n) (fd : Find
         reads = decode-ref-range w (omega arith) (omega arith);
       })
 
-  pub found-nothing : f ≡ Nothing → (decodeWord w ≡ R.Nil) ⊎ FoundNone s n w
-  unfolding missed lowRaw hitFirst headerAt
-  found-nothing e′ =
+  pub found-nil : f ≡ Nil → decodeWord w ≡ R.Nil
+  unfolding missed lowRaw hitFirst
+  found-nil e′ =
       let e = sym (fd .is) ∙ e′ in
       by-cases (lt-or-le (w / 4294967296) 65536)
       (λ lo.
-      inl
-      (decode-low-range w (omega arith)
+      decode-low-range w (omega arith)
       ∙ low-nil (eqb (w / 4294967296) 1) (eqb (w / 4294967296) 2) _ _
-      (simp (lt-leb 131072 (w / 4294967296) (omega arith)) at (sym (missing hs w (inl lo)) ∙ e))))
+      (simp (lt-leb 131072 (w / 4294967296) (omega arith), lt-leb 65536 (w / 4294967296) lo) at (sym (missing hs w (inl lo)) ∙ e)))
       (λ lo.
       by-cases (lt-or-le (w / 4294967296) 131072)
       (λ hi.
-      inr
-      (record {
+      absurd
+      (not-nil (ltb (w % 4294967296) n) (eqb (getD s (w % 4294967296 * 8) 0) (w / 4294967296)) (eqb (getD s (w % 4294967296 * 8 + 1) 0) 0) (w % 4294967296)
+      (simp (lt-leb 131072 (w / 4294967296) hi, le-leb 65536 (w / 4294967296) lo) at e)))
+      (λ hi. absurd (wrong-nil (simp (le-leb 131072 (w / 4294967296) hi) at (sym (missing hs w (inr hi)) ∙ e)))))
+
+  pub found-dead : f ≡ Dead → FoundNone s n w
+  unfolding missed lowRaw hitFirst headerAt
+  found-dead e′ =
+      let e = sym (fd .is) ∙ e′ in
+      by-cases (lt-or-le (w / 4294967296) 65536)
+      (λ lo.
+      absurd
+      (low-dead (eqb (w / 4294967296) 1) (eqb (w / 4294967296) 2)
+      (simp (lt-leb 131072 (w / 4294967296) (omega arith), lt-leb 65536 (w / 4294967296) lo) at (sym (missing hs w (inl lo)) ∙ e))))
+      (λ lo.
+      by-cases (lt-or-le (w / 4294967296) 131072)
+      (λ hi.
+      record {
         reads = decode-ref-range w (omega arith) (omega arith);
         tag = omega arith;
         none = λ l k h.
             (let u : getD s (w % 4294967296 * 8) 0 ≡ w / 4294967296 = omega arith in
             let q = simp (lt-ltb (w % 4294967296) n l, eq-eqb (getD s (w % 4294967296 * 8) 0) (w / 4294967296) u, ne-eqb (getD s (w % 4294967296 * 8 + 1) 0) 0 k) at e in
-            nothing-at (sym q));
-      }))
-      (λ hi. absurd (wrong-nothing (simp (le-leb 131072 (w / 4294967296) hi) at (sym (missing hs w (inr hi)) ∙ e)))))
+            dead-at (sym q));
+      })
+      (λ hi. absurd (wrong-dead (simp (le-leb 131072 (w / 4294967296) hi) at (sym (missing hs w (inr hi)) ∙ e)))))
 
   -- neither nil nor a reference: as document 01's order by kinds has it
   pub found-wrong : {X : Type 0} (nil other : X) (ref : ℕ → ℕ → X) → f ≡ Wrong → byKind nil (λ b. other) (λ z. other) (λ x. other) (λ k. other) ref (decodeWord w) ≡ other
@@ -212,13 +254,13 @@ module _ {s : List ℕ} {n w : ℕ} {f : FoundSlot} (hs : Halves s n) (fd : Find
       (λ lo.
       rw (decode-low-range w (omega arith))
       (low-wrong nil other ref (eqb (w / 4294967296) 1) (eqb (w / 4294967296) 2) _ _
-      (simp (lt-leb 131072 (w / 4294967296) (omega arith)) at (sym (missing hs w (inl lo)) ∙ e))))
+      (simp (lt-leb 131072 (w / 4294967296) (omega arith), lt-leb 65536 (w / 4294967296) lo) at (sym (missing hs w (inl lo)) ∙ e))))
       (λ lo.
       by-cases (lt-or-le (w / 4294967296) 131072)
       (λ hi.
       absurd
       (not-wrong (ltb (w % 4294967296) n) (eqb (getD s (w % 4294967296 * 8) 0) (w / 4294967296)) (eqb (getD s (w % 4294967296 * 8 + 1) 0) 0) (w % 4294967296)
-      (simp (lt-leb 131072 (w / 4294967296) hi, ne-eqb (w / 4294967296) 1 (λ h. omega (arith, h)), ne-eqb (w / 4294967296) 2 (λ h. omega (arith, h))) at e)))
+      (simp (lt-leb 131072 (w / 4294967296) hi, le-leb 65536 (w / 4294967296) lo) at e)))
       (λ hi.
       by-cases (lt-or-le w intBase)
       (λ l. rw (decode-float-range w (omega arith) l))

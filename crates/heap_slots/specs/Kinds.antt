@@ -36,3 +36,7 @@ ITERATOR = 10
 
 abbrev pub COROUTINE : ℕ
 COROUTINE = 11
+
+-- in a row's place: a dead reference (document 02, (i))
+abbrev pub DEAD : ℕ
+DEAD = 15

@@ -1,4 +1,4 @@
--- Which slot a word reaches (document 01, `get`: "needs equal tag and a present object"; refusals 1 and 2).
+-- Which slot a word reaches (document 01, `get`: "needs equal tag and a present object"; refusals 1 and 2; document 02, (i), 11).
 use Prim.Native.Nat.{ℕ, _+_, _*_, _/_, _%_, _≤_, _<_}
 use mathlib.Core.Path.{_≡_}
 use mathlib.Core.Bool.{Bool, true, false, cond, not, _&&_, _||_}
@@ -9,7 +9,7 @@ use Rattle.heap_slots.specs.Header.{headerAt}
 use Rattle.heap_slots.specs.Kinds.{NONE}
 use Rattle.heap_slots.specs.Limits.{HALF, HALF-END, SLOT-WORDS, SPAN}
 use Rattle.heap_slots.specs.declared.FoundSlot.{FoundSlot}
-use Rattle.heap_slots.specs.declared.FoundSlot.the-variants.{At, Nothing, Wrong}
+use Rattle.heap_slots.specs.declared.FoundSlot.the-variants.{At, Dead, Nil, Wrong}
 use Rattle.words.specs.Word.{byKind, decodeWord}
 
 abbrev pub pick : Bool → FoundSlot → FoundSlot → FoundSlot
@@ -18,7 +18,7 @@ pick false a b = b
 
 -- what a word that reaches no object is, by its upper half
 unfoldable pub missed : ℕ → FoundSlot
-missed u = pick (leb HALF-END u) Wrong (pick (eqb u 1) Wrong (pick (eqb u 2) Wrong Nothing))
+missed u = pick (leb HALF-END u) Wrong (pick (leb HALF u) Dead (pick (eqb u 1) Wrong (pick (eqb u 2) Wrong Nil)))
 
 -- the code's order: the hit first
 unfoldable pub hitFirst : List ℕ → ℕ → ℕ → FoundSlot
@@ -29,19 +29,20 @@ hitFirst s n w =
     (missed (w / SPAN)))
     (missed (w / SPAN))
 
--- document 01's number of each case: "1 reaches nothing", "2 .. a word neither nil nor reference"
+-- the number of each case: "1 .. nil", "11, dead reference", "2 .. a word neither nil nor reference"
 unfoldable pub foundNumber : FoundSlot → ℕ
 foundNumber (At i) = 0
-foundNumber Nothing = 1
+foundNumber Nil = 1
+foundNumber Dead = 11
 foundNumber Wrong = 2
 
 -- one of the first n slots has an object and the word's upper half
 unfoldable pub hits : List ℕ → ℕ → ℕ → Bool
 hits s n w = ltb (w % SPAN) n && (eqb (getD s (w % SPAN * SLOT-WORDS) 0) (w / SPAN) && not (eqb (getD s (w % SPAN * SLOT-WORDS + 1) 0) NONE))
 
--- where nothing is hit, by the word's upper half: 1 for nil and references
+-- where nothing is hit, by the word's upper half: 11 for references, 1 for nil
 unfoldable pub missNumber : ℕ → ℕ
-missNumber u = cond (leb HALF-END u || (eqb u 1 || eqb u 2)) 2 1
+missNumber u = cond (leb HALF-END u) 2 (cond (leb HALF u) 11 (cond (eqb u 1 || eqb u 2) 2 1))
 
 pub record Finds (s : List ℕ) (n w : ℕ) (f : FoundSlot) : Type 0 where
   pub is : f ≡ hitFirst s n w
@@ -49,11 +50,11 @@ pub record Finds (s : List ℕ) (n w : ℕ) (f : FoundSlot) : Type 0 where
 
 -- a reference to a slot with this tag: the object there, if there is one and the tag is its own
 unfoldable pub reachedIn : List ℕ → ℕ → ℕ → ℕ → FoundSlot
-reachedIn s n slot tag = pick (ltb slot n) (pick (eqb (headerAt s slot .half) (HALF + tag)) (pick (eqb (headerAt s slot .kind) NONE) Nothing (At slot)) Nothing) Nothing
+reachedIn s n slot tag = pick (ltb slot n) (pick (eqb (headerAt s slot .half) (HALF + tag)) (pick (eqb (headerAt s slot .kind) NONE) Dead (At slot)) Dead) Dead
 
 -- document 01's order: by what the word reads as
 unfoldable pub foundBy : List ℕ → ℕ → ℕ → FoundSlot
-foundBy s n w = byKind Nothing (λ b. Wrong) (λ z. Wrong) (λ x. Wrong) (λ k. Wrong) (λ slot tag. reachedIn s n slot tag) (decodeWord w)
+foundBy s n w = byKind Nil (λ b. Wrong) (λ z. Wrong) (λ x. Wrong) (λ k. Wrong) (λ slot tag. reachedIn s n slot tag) (decodeWord w)
 
 -- the first word of a present object's slot is the upper half of a reference
 pub record Halves (s : List ℕ) (n : ℕ) : Type 0 where

@@ -22,3 +22,6 @@ pub const FUNCTION: u64 = 9;
 pub const ITERATOR: u64 = 10;
 
 pub const COROUTINE: u64 = 11;
+
+// In a row's place: a dead reference.
+pub const DEAD: u64 = 15;

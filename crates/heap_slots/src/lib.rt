@@ -90,11 +90,12 @@ pub const SIGNAL: usize = 4;
 
 pub const FRAMES: usize = 5;
 
-// At: the slot of the object that a word reaches. Nothing: nil, or a reference that misses.
+// At: the slot of the object that a word reaches. Dead: a reference that reaches nothing.
 // Wrong: neither nil nor a reference.
 pub enum FoundSlot {
     At(usize),
-    Nothing,
+    Nil,
+    Dead,
     Wrong,
 }
 
@@ -318,13 +319,16 @@ fn miss(u: u64) -> FoundSlot
     if HALF_END <= u {
         return FoundSlot::Wrong;
     }
+    if HALF <= u {
+        return FoundSlot::Dead;
+    }
     if u == 1 {
         return FoundSlot::Wrong;
     }
     if u == 2 {
         return FoundSlot::Wrong;
     }
-    FoundSlot::Nothing
+    FoundSlot::Nil
 }
 
 // The slot that a word reaches, among the first `fresh`: the hit is tested first.

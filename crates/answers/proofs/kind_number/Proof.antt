@@ -48,6 +48,9 @@ enum-told-14 c = search needs
 enum-told-15 : tie.Need-enum-told-15
 enum-told-15 c = search needs
 
+enum-told-16 : tie.Need-enum-told-16
+enum-told-16 c = search needs
+
 returns : tie.Need-returns
 unfolding kindNumber
 returns c = search needs
@@ -108,6 +111,10 @@ returns-15 : tie.Need-returns-15
 unfolding kindNumber
 returns-15 c = search needs
 
+returns-16 : tie.Need-returns-16
+unfolding kindNumber
+returns-16 c = search needs
+
 pub kind-number-spec : {M : Type 1} → statement M
 kind-number-spec =
     tie.close
@@ -127,6 +134,7 @@ kind-number-spec =
     enum-told-13
     enum-told-14
     enum-told-15
+    enum-told-16
     returns
     returns-2
     returns-3
@@ -141,4 +149,5 @@ kind-number-spec =
     returns-12
     returns-13
     returns-14
-    returns-15)
+    returns-15
+    returns-16)

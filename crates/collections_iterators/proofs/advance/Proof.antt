@@ -1,5 +1,5 @@
 -- `collections_iterators::advance` meets its contract. Assumes nothing.
-use Rattle.collections_iterators.proofs.VisitLaws.{source-array, source-map, visits-array, visits-else, visits-map, visits-none, visits-nothing, visits-wrong}
+use Rattle.collections_iterators.proofs.VisitLaws.{source-array, source-map, visits-array, visits-dead, visits-else, visits-map, visits-nil, visits-none, visits-wrong}
 use Rattle.heap.proofs.ReachLaws.{found-reached, scalars-fit, slot-fits}
 use borrow.Author.Needs.{needs}
 use Rattle.collections_iterators.proofs.advance.Statement.{statement}
@@ -22,6 +22,12 @@ enum-told-2 c = search needs
 
 ended-requires-2 : tie.Need-ended-requires-2
 ended-requires-2 c κs = search needs
+
+enum-told-3 : tie.Need-enum-told-3
+enum-told-3 c = search needs
+
+ended-requires-3 : tie.Need-ended-requires-3
+ended-requires-3 c κs = search needs
 
 enum-known-j : tie.Need-enum-known-j
 enum-known-j c = search needs
@@ -82,18 +88,21 @@ returns-3 c =
     let start : tie.Start = search in
     visits-map ((start .pre) .0) (at-find .find .ensures) (at-else1 .if1 .left) ((at-j .j .given) .1) (at-read-header .read-header .ensures) (at-then3 .if3 .taken) (at-read-map .read-map .ensures) (at-visit-map .visit-map .ensures)
 
-ended-requires-3 : tie.Need-ended-requires-3
-ended-requires-3 c κs = search needs
+ended-requires-4 : tie.Need-ended-requires-4
+ended-requires-4 c κs = search needs
 
 returns-4 : tie.Need-returns-4
-returns-4 c = search visits-nothing
+returns-4 c = search visits-nil
 
 returns-5 : tie.Need-returns-5
-returns-5 c = search visits-wrong
+returns-5 c = search visits-dead
 
 returns-6 : tie.Need-returns-6
-returns-6 c =
-    let at-ended3 : tie.After-ended3 = search in
+returns-6 c = search visits-wrong
+
+returns-7 : tie.Need-returns-7
+returns-7 c =
+    let at-ended4 : tie.After-ended4 = search in
     let at-else3 : tie.Else3 = search in
     let at-else2 : tie.Else2 = search in
     let at-read-header : tie.After-read-header = search in
@@ -103,7 +112,7 @@ returns-6 c =
     let at-shared-slice-known4 : tie.After-shared-slice-known4 = search in
     let at-shared-slice-known : tie.After-shared-slice-known = search in
     let start : tie.Start = search in
-    visits-else ((start .pre) .0) (at-find .find .ensures) (at-else1 .if1 .left) ((at-j .j .given) .1) (at-read-header .read-header .ensures) (at-else2 .if2 .left) (at-else3 .if3 .left) ((start .pre) .1) (at-ended3 .ended3 .ensures)
+    visits-else ((start .pre) .0) (at-find .find .ensures) (at-else1 .if1 .left) ((at-j .j .given) .1) (at-read-header .read-header .ensures) (at-else2 .if2 .left) (at-else3 .if3 .left) ((start .pre) .1) (at-ended4 .ended4 .ensures)
 
 pub advance-spec : {M : Type 1} → statement M
 advance-spec =
@@ -115,6 +124,8 @@ advance-spec =
     ended-requires
     enum-told-2
     ended-requires-2
+    enum-told-3
+    ended-requires-3
     enum-known-j
     read-header-requires
     visit-array-requires
@@ -122,7 +133,8 @@ advance-spec =
     read-map-requires
     visit-map-requires
     returns-3
-    ended-requires-3
+    ended-requires-4
     returns-4
     returns-5
-    returns-6)
+    returns-6
+    returns-7)

@@ -1,5 +1,5 @@
 -- `collections_iterators::new_iter` meets its contract. Assumes nothing.
-use Rattle.collections_iterators.proofs.BeginLaws.{iterates-array, iterates-else, iterates-map, iterates-nothing, iterates-wrong}
+use Rattle.collections_iterators.proofs.BeginLaws.{iterates-array, iterates-dead, iterates-else, iterates-map, iterates-nil, iterates-wrong}
 use Rattle.heap.proofs.ReachLaws.{found-reached, scalars-fit, slot-fits}
 use borrow.Author.Needs.{needs}
 use Rattle.collections_iterators.proofs.new_iter.Statement.{statement}
@@ -13,6 +13,9 @@ enum-told c = search needs
 
 enum-told-2 : tie.Need-enum-told-2
 enum-told-2 c = search needs
+
+enum-told-3 : tie.Need-enum-told-3
+enum-told-3 c = search needs
 
 enum-known-j : tie.Need-enum-known-j
 enum-known-j c = search needs
@@ -84,19 +87,25 @@ same-length-5 : tie.Need-same-length-5
 same-length-5 c = search needs
 
 returns-3 : tie.Need-returns-3
-returns-3 c = search iterates-nothing
+returns-3 c = search iterates-nil
 
 same-length-6 : tie.Need-same-length-6
 same-length-6 c = search needs
 
 returns-4 : tie.Need-returns-4
-returns-4 c = search iterates-wrong
+returns-4 c = search iterates-dead
 
 same-length-7 : tie.Need-same-length-7
 same-length-7 c = search needs
 
 returns-5 : tie.Need-returns-5
-returns-5 c = search iterates-else
+returns-5 c = search iterates-wrong
+
+same-length-8 : tie.Need-same-length-8
+same-length-8 c = search needs
+
+returns-6 : tie.Need-returns-6
+returns-6 c = search iterates-else
 
 pub new-iter-spec : {M : Type 1} → statement M
 new-iter-spec =
@@ -105,6 +114,7 @@ new-iter-spec =
     find-requires
     enum-told
     enum-told-2
+    enum-told-3
     enum-known-j
     read-header-requires
     begin-iter-requires
@@ -121,4 +131,6 @@ new-iter-spec =
     same-length-6
     returns-4
     same-length-7
-    returns-5)
+    returns-5
+    same-length-8
+    returns-6)

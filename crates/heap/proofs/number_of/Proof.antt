@@ -34,6 +34,9 @@ enum-told-9 c = search needs
 enum-told-10 : tie.Need-enum-told-10
 enum-told-10 c = search needs
 
+enum-told-11 : tie.Need-enum-told-11
+enum-told-11 c = search needs
+
 returns : tie.Need-returns
 unfolding numberOf
 returns c = search needs
@@ -74,6 +77,10 @@ returns-10 : tie.Need-returns-10
 unfolding numberOf
 returns-10 c = search needs
 
+returns-11 : tie.Need-returns-11
+unfolding numberOf
+returns-11 c = search needs
+
 pub number-of-spec : {M : Type 1} → statement M
 number-of-spec =
     tie.close
@@ -88,6 +95,7 @@ number-of-spec =
     enum-told-8
     enum-told-9
     enum-told-10
+    enum-told-11
     returns
     returns-2
     returns-3
@@ -97,4 +105,5 @@ number-of-spec =
     returns-7
     returns-8
     returns-9
-    returns-10)
+    returns-10
+    returns-11)
