@@ -11,6 +11,7 @@ extern "C" {
     fn map_bench_find(words: *const u64, cells: *const u64, n: usize, hashes: *const u64, h: usize, keys: *const u64, k: usize) -> u64;
     fn map_bench_remove(words: *mut u64, cells: *mut u64, n: usize, hashes: *const u64, h: usize, keys: *const u64, k: usize) -> u64;
     fn map_bench_iterate(words: *const u64, cells: *const u64, n: usize, steps: usize) -> u64;
+    fn map_bench_resume(words: *const u64, cells: *const u64, n: usize, epoch: u32, lasts: *const u64, l: usize) -> u64;
     fn mallopt(parameter: i32, value: i32) -> i32;
 }
 
@@ -44,6 +45,7 @@ trait Side {
     fn find(&self, k: &Keys) -> u64;
     fn remove(&mut self, k: &Keys) -> u64;
     fn iterate(&self, steps: usize) -> u64;
+    fn resume(&self, lasts: &[u64]) -> u64;
     fn live(&self) -> u64;
     fn places(&self) -> u64;
     fn clear(&mut self);
@@ -73,6 +75,11 @@ impl Side for Ours<'_> {
     #[inline(never)]
     fn iterate(&self, steps: usize) -> u64 {
         unsafe { map_bench_iterate(self.words.as_ptr(), self.cells.as_ptr(), self.cells.len(), steps) }
+    }
+
+    #[inline(never)]
+    fn resume(&self, lasts: &[u64]) -> u64 {
+        unsafe { map_bench_resume(self.words.as_ptr(), self.cells.as_ptr(), self.cells.len(), BEFORE, lasts.as_ptr(), lasts.len()) }
     }
 
     fn live(&self) -> u64 {
@@ -142,6 +149,18 @@ impl Side for Original {
         steps as u64
     }
 
+    #[inline(never)]
+    fn resume(&self, lasts: &[u64]) -> u64 {
+        let mut n = 0;
+        for &last in lasts {
+            let mut cursor = Cursor { last_seq: Some(last), pos: 0, epoch: BEFORE };
+            if self.0.next(&mut cursor).is_some() {
+                n += 1;
+            }
+        }
+        n
+    }
+
     fn live(&self) -> u64 {
         self.0.len() as u64
     }
@@ -155,8 +174,12 @@ impl Side for Original {
     }
 }
 
-const NAMES: [&str; 10] = ["put", "put_again", "find", "find_shuffled", "find_absent", "iterate", "remove", "put_others", "remove_rest", "put_churn"];
+const NAMES: [&str; 12] = [
+    "put", "put_again", "find", "find_shuffled", "find_absent", "iterate", "remove", "put_others", "remove_rest", "put_churn", "resume_newest", "resume_oldest",
+];
 const N: usize = 100_000;
+/// An epoch that no map here has.
+const BEFORE: u32 = u32::MAX;
 
 struct Load {
     ordered: Keys,
@@ -166,10 +189,13 @@ struct Load {
     rest: Keys,
     gone: Keys,
     others: Keys,
+    oldest: Keys,
+    last_newest: Vec<u64>,
+    last_oldest: Vec<u64>,
 }
 
-/// Two lives of a map: their times, and the numbers answered. In the second, of half the keys, the entries outgrow their capacity
-/// and the index does not.
+/// Three lives of a map: their times, and the numbers answered. In the second, of half the keys, the entries outgrow their capacity
+/// and the index does not. In the third, the last removal of the older half compacts the map; then cursors of before resume.
 fn life(m: &mut dyn Side, w: &Load) -> (Vec<f64>, Vec<u64>) {
     let (mut times, mut said) = (vec![], vec![]);
     let mut step = |f: &mut dyn FnMut() -> u64| {
@@ -194,6 +220,13 @@ fn life(m: &mut dyn Side, w: &Load) -> (Vec<f64>, Vec<u64>) {
     said.push(black_box(m.put(&w.others)));
     times.push(start.elapsed().as_nanos() as f64);
     said.extend([m.live(), m.places()]);
+    m.clear();
+    said.extend([m.put(&w.ordered), m.remove(&w.oldest), m.live(), m.places()]);
+    for lasts in [&w.last_newest, &w.last_oldest] {
+        let start = Instant::now();
+        said.push(black_box(m.resume(lasts)));
+        times.push(start.elapsed().as_nanos() as f64);
+    }
     (times, said)
 }
 
@@ -222,8 +255,13 @@ fn main() {
     }
     let absent = Keys::new(order.iter().map(|k| k + 1).collect());
     let shuffled = Keys::new(order);
+    let ordered = Keys::new(keys);
+    let n = N as u64;
     let load = Load {
-        ordered: Keys::new(keys),
+        oldest: ordered.part(0, N / 2 + 1),
+        last_newest: (0..n).map(|i| n - 2 - i % 16).collect(),
+        last_oldest: (0..1000).map(|i| n / 2 + 1 + i % 16).collect(),
+        ordered,
         first: shuffled.part(0, N / 2),
         rest: shuffled.part(N / 2, N),
         gone: shuffled.part(0, N / 5),

@@ -89,6 +89,16 @@ impl State {
         }
     }
 
+    /// The original's search in `next`; beside it a plain count of what a search from the last entry backwards looks at.
+    fn search(&mut self, q: u64) {
+        let entries = self.map.entries();
+        let pos = entries.partition_point(|e| e.seq <= q);
+        let later = entries.iter().filter(|e| e.seq > q).count();
+        let looked = later + usize::from(entries.iter().any(|e| e.seq <= q));
+        self.word(pos as u64);
+        self.word(looked as u64);
+    }
+
     /// The store's numbers; the epoch is what a step writes into a cursor.
     fn numbers(&mut self) {
         let mut probe = Cursor::default();
@@ -144,7 +154,7 @@ impl Input {
 fn size(op: usize) -> usize {
     match op {
         10 | 13 | 14 => 1,
-        1 | 6 | 7 | 9 | 11 => 2,
+        1 | 6 | 7 | 9 | 11 | 19 => 2,
         4 | 5 | 8 => 3,
         2 | 3 | 16 => 4,
         12 | 15 => 5,
@@ -179,6 +189,7 @@ fn command(s: &mut State, x: &Input, at: usize, op: usize) {
         14 => (0..s.map.entries().len()).for_each(|p| s.entry(p)),
         15 => s.put(x.small_hash(at + 1), x.small(at + 1), x.word(at + 4)),
         16 => s.remove_key(x.small_hash(at + 1), x.small(at + 1)),
+        19 => s.search(a),
         _ => {}
     }
     s.numbers();

@@ -20,6 +20,7 @@ def remove(h, k): return b"\x05" + n(h, k)
 def remove_at(p): return b"\x06" + n(p)
 def set_value(p, v): return b"\x08" + n(p, v)
 def step(seen, q, p, e): return bytes([12, seen]) + n(q, p, e)
+def search(q): return b"\x13" + n(q)
 def small_put(k, way, v): return bytes([15, k % 256, k // 256, way]) + n(v)
 def small_remove(k, way): return bytes([16, k % 256, k // 256, way])
 
@@ -74,6 +75,8 @@ def random_calls(seed, calls):
             c = b"\x0a"
         elif x < .82:
             c = b"\x0b" + n(k)
+        elif x < .84:
+            c = search(r.randrange(48) if r.random() < .9 else r.choice(WORDS))
         elif x < .9:
             c = step(r.randrange(2), r.choice(WORDS), p, r.choice([0, 0, 1, 2, 3, 2**32 - 1]))
         elif x < .99:
@@ -103,12 +106,39 @@ def long_life(seed, calls):
     return b"".join(out) + b"\x0e" + LINE
 
 
+def searches():
+    """The search for the first later entry, and a step of a cursor of another epoch, on one store a line."""
+    def filled(k):
+        return bytes([1, 0]) + b"".join(put(i, i, i) for i in range(k))
+
+    def removed(keys):
+        return b"".join(remove(i, i) for i in keys)
+
+    stores = [
+        bytes([1, 0]),                                                  # empty
+        bytes([1, 0]) + remove_at(0),                                   # empty and hashed
+        filled(1),
+        filled(12),                                                     # packed: none later than 11, the last
+        filled(12) + removed(range(7, 12)),                             # dead ones at the end
+        filled(12) + removed(range(0, 12, 2)),                          # every other one dead
+        filled(12) + removed(range(12)),                                # all dead
+        filled(40) + removed(range(21)),                                # compacted: all later than 20
+        filled(40) + removed(range(21)) + removed(range(30, 40)),       # and then dead ones at the end
+        filled(33) + removed(range(33)),                                # compacted, all later than 16 and dead
+        filled(40) + removed(range(1, 40, 2)) + removed([0, 38]),       # compacted, with gaps: 2, 4, .. 38, the last dead
+        bytes([1, 1]) + b"".join(put(7, i, i) for i in range(12)) + b"".join(remove(7, i) for i in (3, 10, 11)),   # traced keys
+    ]
+    cursors = b"".join(search(q) + step(1, q, 0, 5) for q in list(range(48)) + [63, 2**32 - 1, 2**32, 2**64 - 1])
+    return b"".join(store + cursors + b"\x0e" + LINE for store in stores)
+
+
 def main():
     macros = [m.ljust(32, b"\0") for m in MACROS + [TAIL]]
     out = bytes([len(WORDS), len(macros)]) + b"".join(w.to_bytes(8, "little") for w in WORDS) + b"".join(macros)
     out += every_short_sequence()
     out += b"".join(random_calls(seed, 600) for seed in range(24))
     out += b"".join(long_life(seed, 3000) for seed in range(3))
+    out += searches()
     assert len(out) <= 131072
     sys.stdout.buffer.write(out)
 

@@ -13,7 +13,7 @@ use Rattle.map_store.specs.Store as S
 use Rattle.map_store.specs.View.{storeOf, roomOf}
 use Rattle.map_store.specs.Map.{Good, Became, Valued}
 use Rattle.map_store.specs.declared.MapStore.{MapStore}
-use Rattle.map_bench.specs.Loops.{loaded, bare, Ran, Answered, AnsweredBy, outcomeNumber, putRefusal, putTo, removedTo, foundTo, oneOf, front, onward, walked}
+use Rattle.map_bench.specs.Loops.{loaded, bare, Ran, Answered, AnsweredBy, outcomeNumber, putRefusal, putTo, removedTo, oneOf, metTo, front, onward, walked}
 use Rattle.map_bench.specs.declared.Outcome.{Outcome}
 use Rattle.map_bench.specs.declared.Outcome.the-variants.{Done, Refused}
 
@@ -82,9 +82,9 @@ pub remove-turn : (hs ks : List ℕ) (i : ℕ) (s : S.Store) → S.removedKey fa
 unfolding removedTo
 remove-turn hs ks i s = sym (ap (λ (n : ℕ). removedTo hs ks n s) (add-one i))
 
-pub find-turn : (hs ks : List ℕ) (i : ℕ) (s : S.Store) (o : Option ℕ) → o ≡ S.find false (getD hs i 0) (getD ks i 0) s → foundTo hs ks i s + oneOf o ≡ foundTo hs ks (i + 1) s
-unfolding foundTo
-find-turn hs ks i s o e = ap (λ (x : Option ℕ). foundTo hs ks i s + oneOf x) e ∙ sym (ap (λ (n : ℕ). foundTo hs ks n s) (add-one i))
+pub met-turn : (answer : ℕ → Option ℕ) (i : ℕ) (o : Option ℕ) → o ≡ answer i → metTo answer i + oneOf o ≡ metTo answer (i + 1)
+unfolding metTo
+met-turn answer i o e = ap (λ (x : Option ℕ). metTo answer i + oneOf x) e ∙ sym (ap (metTo answer) (add-one i))
 
 pub put-zero : (hs ks : List ℕ) (s : S.Store) → s ≡ putTo hs ks 0 s
 unfolding putTo
@@ -94,9 +94,9 @@ pub remove-zero : (hs ks : List ℕ) (s : S.Store) → s ≡ removedTo hs ks 0 s
 unfolding removedTo
 remove-zero hs ks s = refl
 
-pub find-zero : (hs ks : List ℕ) (s : S.Store) → 0 ≡ foundTo hs ks 0 s
-unfolding foundTo
-find-zero hs ks s = refl
+pub met-zero : (answer : ℕ → Option ℕ) → 0 ≡ metTo answer 0
+unfolding metTo
+met-zero answer = refl
 
 -- a loop under way, after i keys
 pub record Running (rule : ℕ → S.Store → S.Store) (words₀ cells₀ cells : List ℕ) (store : MapStore) (i : ℕ) : Type 0 where

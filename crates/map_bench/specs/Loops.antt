@@ -69,10 +69,18 @@ abbrev pub oneOf : Option ℕ → ℕ
 oneOf none = 0
 oneOf (some p) = 1
 
+-- how many of the first n answers are positions
+unfoldable pub metTo : (ℕ → Option ℕ) → ℕ → ℕ
+metTo answer zero = 0
+metTo answer (suc n) = metTo answer n + oneOf (answer n)
+
 -- how many of the first n keys are found
-unfoldable pub foundTo : List ℕ → List ℕ → ℕ → S.Store → ℕ
-foundTo hs ks zero s = 0
-foundTo hs ks (suc n) s = foundTo hs ks n s + oneOf (S.find false (getD hs n 0) (getD ks n 0) s)
+abbrev pub foundTo : List ℕ → List ℕ → ℕ → S.Store → ℕ
+foundTo hs ks n s = metTo (λ i. S.find false (getD hs i 0) (getD ks i 0) s) n
+
+-- how many of the first n cursors meet an entry, of which each yielded a sequence number of the list last, at this epoch
+abbrev pub resumedTo : ℕ → List ℕ → ℕ → S.Store → ℕ
+resumedTo epoch lasts n s = metTo (λ i. (S.nextOf s (record { last = some (getD lasts i 0); pos = 0; epoch = epoch })) .answer) n
 
 -- a cursor that has yielded nothing
 abbrev pub front : S.Cursor

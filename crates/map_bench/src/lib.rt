@@ -7,7 +7,7 @@ ghost use mathlib.Core.Path.{_≡_};
 ghost use lib.ListN.{length};
 ghost use Rattle.map_store.specs.View.{storeOf};
 ghost use Rattle.map_store.specs.Map.{Good};
-ghost use Rattle.map_bench.specs.Loops.{loaded, bare, Ran, Answered, putTo, removedTo, foundTo, walked, front};
+ghost use Rattle.map_bench.specs.Loops.{loaded, bare, Ran, Answered, putTo, removedTo, foundTo, resumedTo, walked, front};
 
 // The store after a put, or the number of the refusal.
 pub enum Outcome {
@@ -190,4 +190,35 @@ pub extern "C" fn map_bench_iterate(words: &[u64; 7], cells: &[u64], n: usize) -
         i += 1;
     }
     i as u64
+}
+
+// How many of the cursors meet an entry, of which each yielded a sequence number of the list last, at this epoch.
+#[no_mangle]
+pub extern "C" fn map_bench_resume(
+    words: &[u64; 7],
+    cells: &[u64],
+    epoch: u32,
+    lasts: &[u64],
+) -> u64
+    requires { ⌜ Good (loaded (now words)) (now cells) ⌝ }
+    ensures { λ r. ⌜ r ≡ resumedTo epoch (now (lasts .entry)) (length (now (lasts .entry))) (storeOf (loaded (now (words .entry))) (now (cells .entry))) ⌝ }
+{
+    let store = load(words);
+    let mut i = 0;
+    let mut n: u64 = 0;
+    while i < lasts.len() {
+        let last = lasts[i];
+        let cursor = Cursor {
+            last: Last::Seq(last),
+            pos: 0,
+            epoch,
+        };
+        let stepped = map_store::step(store, cells, cursor);
+        let found = stepped.found;
+        if let Found::At(_) = found {
+            n += 1;
+        }
+        i += 1;
+    }
+    n
 }

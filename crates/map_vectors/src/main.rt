@@ -10,7 +10,7 @@
 //   07 p         entry read                                10 kk f     remove it
 //   08 p v       set value                                 11          print the digest and begin anew
 //   09 k         note                                      12 d a t nn the first a * nn words of d of the first a macros, each on a new
-//                                                                      map and followed by macro t; prints after every nn words
+//   13 l         search for the first entry later than l               map and followed by macro t; prints after every nn words
 // Anything else ends a macro, and the input.
 use map_store::Cursor;
 use map_store::Found;
@@ -275,6 +275,19 @@ fn growth(s: State, cells: &[u64], key: u64) -> State
     with_digest(s, mixed(s.digest, bytes))
 }
 
+// The position of the first entry later than q, and how many entries the search looked at.
+fn search(s: State, cells: &[u64], q: u64) -> State
+    requires { ⌜ Good (s .store) (now cells) ⌝ }
+    ensures { λ r. ⌜ Good (r .store) (now (cells .entry)) ⌝ }
+{
+    let store = s.store;
+    let later = map_store::first_later(store, cells, q);
+    with_digest(
+        s,
+        mixed(mixed(s.digest, later.pos as u64), later.looked as u64),
+    )
+}
+
 fn last_of(seen: bool, q: u64) -> Last {
     if seen {
         return Last::Seq(q);
@@ -373,7 +386,7 @@ fn size(op: usize) -> usize
 {
     match op {
         10 | 13 | 14 => 1,
-        1 | 6 | 7 | 9 | 11 => 2,
+        1 | 6 | 7 | 9 | 11 | 19 => 2,
         4 | 5 | 8 => 3,
         2 | 3 | 16 => 4,
         12 | 15 => 5,
@@ -436,6 +449,7 @@ fn query(s: State, cells: &[u64], input: &[u8], at: usize, op: usize) -> State
         ),
         13 => step(s, cells, s.seen, s.last, s.pos, s.epoch),
         14 => entries(s, cells),
+        19 => search(s, cells, a),
         _ => s,
     }
 }

@@ -8,7 +8,7 @@ use lib.ListN.{length}
 use Rattle.map_store.specs.View.{storeOf, position}
 use Rattle.map_store.specs.Map.{Good}
 use Rattle.map_bench.specs.Loops.{foundTo}
-use Rattle.map_bench.proofs.Laws.{Counting, count-start, count-turn, count-still, count-end, find-zero, find-turn}
+use Rattle.map_bench.proofs.Laws.{Counting, count-start, count-turn, count-still, count-end, met-zero, met-turn}
 use Rattle.map_bench.proofs.map_bench_find.Statement.{statement}
 use Rattle.map_bench.proofs.map_bench_find.Tie as tie
 
@@ -22,7 +22,7 @@ load-requires : tie.Need-load-requires Inv-loop μ-loop
 load-requires c κs = search needs
 
 loop-holds : tie.Need-loop-holds Inv-loop μ-loop
-loop-holds c = count-start _ _ (find-zero _ _ _)
+loop-holds c = count-start _ _ (met-zero _)
 
 mul-hash : tie.Need-mul-hash Inv-loop μ-loop
 mul-hash c = omega (arith, (c .loop-test .taken), (c .before .before .before .before .before .before .good))
@@ -57,8 +57,8 @@ loop-less c = omega (arith, (c .before .before .before .before .loop-test .taken
 loop-again : tie.Need-loop-again Inv-loop μ-loop
 loop-again c = let l = (c .before .before .before .before .loop-test .taken) in let i = (c .before .before .before .before .before .loop .inv) in
     ⊎-elim
-    (λ w. rw (w .2) (count-turn _ _ _ _ 1 l i (omega arith) (find-turn _ _ _ _ _ (ap position (sym (w .1 .given .1)) ∙ (c .before .find .ensures)))))
-    (λ w. rw (w .2) (count-still _ _ _ _ l i (find-turn _ _ _ _ _ (ap position (sym (w .1 .given .1)) ∙ (c .before .find .ensures)))))
+    (λ w. rw (w .2) (count-turn _ _ _ _ 1 l i (omega arith) (met-turn _ _ _ (ap position (sym (w .1 .given .1)) ∙ (c .before .find .ensures)))))
+    (λ w. rw (w .2) (count-still _ _ _ _ l i (met-turn _ _ _ (ap position (sym (w .1 .given .1)) ∙ (c .before .find .ensures)))))
     ((c .match .came))
 
 returns : tie.Need-returns Inv-loop μ-loop
