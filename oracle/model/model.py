@@ -21,7 +21,7 @@ import struct as _st
 import sys
 import zlib
 
-LANDED = "i"                                  # those that the product has
+LANDED = "i,ii"                               # those that the product has
 REQUESTS = ["i", "ii", "iii", "iv", "v", "vi", "vii", "viii", "ix", "x", "xi", "xii", "xiii", "xiv"]
 FEATURES = set()
 
