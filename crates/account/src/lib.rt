@@ -1,8 +1,10 @@
 // The account (document 01, "Account"): a small record handed in and handed back.
+#![tactic(auto)]
+
 ghost use Rattle.std.specs.Prelude.{◌≡◌, ◌+◌, ◌*◌};
 ghost use Rattle.account.specs.Account.{saturated, new_account, fits, fits_of, charge_is, charge_of, wants_collection, after_sweep};
 
-#[derive(Drop)]
+#[derive(Clone, Copy)]
 pub struct Account {
     pub used: u64,
     pub since: u64,
@@ -11,14 +13,14 @@ pub struct Account {
 }
 
 // What becomes of a charge.
-#[derive(Drop)]
+#[derive(Clone, Copy)]
 pub enum Charged {
     Next(Account),
     Refused,
 }
 
 // Whether a charge would be accepted, with the account afterwards: asking changes nothing.
-#[derive(Drop)]
+#[derive(Clone, Copy)]
 pub struct Answered {
     pub next: Account,
     pub fits: bool,

@@ -5,7 +5,7 @@ use mathlib.Core.Bool.{Bool, true, false, cond}
 use mathlib.Core.List.{List}
 use native.Mathlib.Omega.{arith}
 use borrow.Author.Tests.{ltb-true}
-use lib.Dec.{eqb, leb, ltb}
+use lib.Dec.{eqb, ltb}
 use lib.ListN.{get_or, length}
 use Rattle.heap_slots.specs.Kinds.{DEAD, NONE}
 use Rattle.heap_slots.specs.Limits.{SLOT_WORDS, SLOTS_MAX, SPAN}

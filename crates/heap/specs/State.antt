@@ -1,8 +1,6 @@
 -- The heap's record and its lent buffers, and the model that they hold.
 use Rattle.std.specs.Prelude.{ℕ, ◌%◌, false, cond, List, leb, ltb, length}
 use Rattle.std.proofs.Math.Option.{none}
-use Rattle.std.specs.Borrow.{Bor}
-use denote.Triple.Both.{Both}
 use Rattle.heap_slots.specs.Header.{scalars_at}
 use Rattle.heap_slots.specs.FreeList.{free_list}
 use Rattle.heap_slots.specs.Limits.{BOX_HALF, GENERATIONS}
@@ -24,26 +22,9 @@ pub record State : Type 0 where
   pub directory : List ℕ
   pub cells : List ℕ
 
--- a buffer as a call is lent it
-abbrev pub Lent : Type 0
-Lent = Bor (List ℕ)
-
--- and at both ends of the call
-abbrev pub Pair : Type 0
-Pair = Both Lent Lent
-
+-- the record with what the lent buffers hold: in a requires, and in an ensures before and after the call
 abbrev pub state : Heap → List ℕ → List ℕ → List ℕ → List ℕ → List ℕ → State
 state h s x f d c = record { heap = h; slots = s; scalars = x; list = f; directory = d; cells = c }
-
--- the state that a call is lent: in a requires, and in an ensures before and after the call
-abbrev pub lent : Heap → Lent → Lent → Lent → Lent → Lent → State
-lent h s x f d c = state h s.now x.now f.now d.now c.now
-
-abbrev pub before : Heap → Pair → Pair → Pair → Pair → Pair → State
-before h s x f d c = lent h s.entry x.entry f.entry d.entry c.entry
-
-abbrev pub after : Heap → Pair → Pair → Pair → Pair → Pair → State
-after h s x f d c = lent h s.exit x.exit f.exit d.exit c.exit
 
 abbrev pub raw_of : State → ℕ → RawSlot
 raw_of t i = raw_at t.slots t.cells i

@@ -1,5 +1,7 @@
 // The heap: its record, its invariant, opening, and the calls on the whole heap. What other crates
 // build their calls on stands apart: `lookup`, `placing`, `resting`.
+#![tactic(auto)]
+
 pub mod lookup;
 pub mod placing;
 pub mod resting;
@@ -10,7 +12,7 @@ ghost use Rattle.model.specs.Calls as Calls;
 ghost use Rattle.model.specs.Replies.{nothing, number, truth};
 ghost use Rattle.heap.specs.Answers.{answered, done_is, kind_number, number_of};
 ghost use Rattle.heap.specs.Locating.{RowOrDead};
-ghost use Rattle.heap.specs.State.{before, lent};
+ghost use Rattle.heap.specs.State.{state};
 ghost use Rattle.heap.specs.Good.{Good};
 ghost use Rattle.model.specs.Opening.{between, sizes_fit};
 ghost use Rattle.heap.specs.Opens.{Opens, beside, new_heap, opening_of, room_for, weights_fit};
@@ -25,7 +27,7 @@ use words::Raw;
 // size: slots; fresh: slots ever used; free: length of the free list; top: regions of the cells lie
 // below it; entries: length of the directory; taken: cells in use; present: objects present;
 // coroutines: those of them that are coroutines.
-#[derive(Drop)]
+#[derive(Clone, Copy)]
 pub struct Heap {
     pub account: Account,
     pub weights: Weights,
@@ -42,7 +44,7 @@ pub struct Heap {
 }
 
 // Document 01, "Who can be turned back"; document 02, (i): DeadReference.
-#[derive(Drop)]
+#[derive(Clone, Copy)]
 pub enum Refusal {
     NilTarget,
     OtherKind,
@@ -77,54 +79,54 @@ pub fn number_of(q: Refusal) -> u64
 }
 
 // A word or a number read.
-#[derive(Drop)]
+#[derive(Clone, Copy)]
 pub enum Reading {
     Is(u64),
     Refused(Refusal),
 }
 
 // A signed number read.
-#[derive(Drop)]
+#[derive(Clone, Copy)]
 pub enum Signed {
     Is(i64),
     Refused(Refusal),
 }
 
-#[derive(Drop)]
+#[derive(Clone, Copy)]
 pub enum Test {
     Is(bool),
     Refused(Refusal),
 }
 
 // A call that answers no word.
-#[derive(Drop)]
+#[derive(Clone, Copy)]
 pub enum Done {
     Accepted,
     Refused(Refusal),
 }
 
 // A call that answers no word, and the record after it.
-#[derive(Drop)]
+#[derive(Clone, Copy)]
 pub struct Settled {
     pub heap: Heap,
     pub done: Done,
 }
 
 // An allocation: the reference made, or the refusal.
-#[derive(Drop)]
+#[derive(Clone, Copy)]
 pub struct Made {
     pub heap: Heap,
     pub answer: Reading,
 }
 
 // A heap opened, or 10.
-#[derive(Drop)]
+#[derive(Clone, Copy)]
 pub enum Opened {
     Ready(Heap),
     Refused(Refusal),
 }
 
-#[derive(Drop)]
+#[derive(Clone, Copy)]
 pub enum Kind {
     Nil,
     String,
@@ -144,7 +146,7 @@ pub enum Kind {
     Dead,
 }
 
-#[derive(Drop)]
+#[derive(Clone, Copy)]
 pub enum Located {
     At(usize),
     Refused(Refusal),
@@ -160,8 +162,8 @@ pub fn get(
     cells: &[u64],
     w: u64,
 ) -> u64
-    requires { Good (lent heap slots scalars list directory cells) }
-    ensures { Reads (Calls.get w) (before heap slots scalars list directory cells) (answered (number result)) }
+    requires { Good (state heap slots.now scalars.now list.now directory.now cells.now) }
+    ensures { Reads (Calls.get w) (state heap slots.now scalars.now list.now directory.now cells.now) (answered (number result)) }
 {
     lookup::row_at(slots, heap.fresh, w)
 }
@@ -176,8 +178,8 @@ pub fn deref(
     cells: &[u64],
     w: u64,
 ) -> u64
-    requires { Good (lent heap slots scalars list directory cells) }
-    ensures { Reads (Calls.deref_word w) (before heap slots scalars list directory cells) (answered (number result)) }
+    requires { Good (state heap slots.now scalars.now list.now directory.now cells.now) }
+    ensures { Reads (Calls.deref_word w) (state heap slots.now scalars.now list.now directory.now cells.now) (answered (number result)) }
 {
     if !words::is_box(w) {
         return w;
@@ -223,8 +225,8 @@ pub fn kind_of(
     cells: &[u64],
     w: u64,
 ) -> Kind
-    requires { Good (lent heap slots scalars list directory cells) }
-    ensures { Reads (Calls.kind_of_word w) (before heap slots scalars list directory cells) (answered (number (kind_number result))) }
+    requires { Good (state heap slots.now scalars.now list.now directory.now cells.now) }
+    ensures { Reads (Calls.kind_of_word w) (state heap slots.now scalars.now list.now directory.now cells.now) (answered (number (kind_number result))) }
 {
     match words::decode(w) {
         Raw::Nil => Kind::Nil,
@@ -246,8 +248,8 @@ pub fn charge(
     cells: &[u64],
     bytes: u64,
 ) -> Settled
-    requires { Good (lent heap slots scalars list directory cells) }
-    ensures { Performs (Calls.charge bytes) (before heap slots scalars list directory cells) (done_is result.done) (before result.heap slots scalars list directory cells) }
+    requires { Good (state heap slots.now scalars.now list.now directory.now cells.now) }
+    ensures { Performs (Calls.charge bytes) (state heap slots.now scalars.now list.now directory.now cells.now) (done_is result.done) (state result.heap slots.now scalars.now list.now directory.now cells.now) }
 {
     let account = heap.account;
     match account.charge(bytes) {
@@ -276,8 +278,8 @@ pub fn fits(
     cells: &[u64],
     bytes: u64,
 ) -> bool
-    requires { Good (lent heap slots scalars list directory cells) }
-    ensures { Reads (Calls.fits_bytes bytes) (before heap slots scalars list directory cells) (answered (truth result)) }
+    requires { Good (state heap slots.now scalars.now list.now directory.now cells.now) }
+    ensures { Reads (Calls.fits_bytes bytes) (state heap slots.now scalars.now list.now directory.now cells.now) (answered (truth result)) }
 {
     let account = heap.account;
     account.allows(bytes)
@@ -293,8 +295,8 @@ pub fn wants_gc(
     cells: &[u64],
     extra: u64,
 ) -> bool
-    requires { Good (lent heap slots scalars list directory cells) }
-    ensures { Reads (Calls.wants_gc extra) (before heap slots scalars list directory cells) (answered (truth result)) }
+    requires { Good (state heap slots.now scalars.now list.now directory.now cells.now) }
+    ensures { Reads (Calls.wants_gc extra) (state heap slots.now scalars.now list.now directory.now cells.now) (answered (truth result)) }
 {
     let account = heap.account;
     account.wants_gc(extra)
@@ -309,8 +311,8 @@ pub fn collection_count(
     directory: &[u64],
     cells: &[u64],
 ) -> u64
-    requires { Good (lent heap slots scalars list directory cells) }
-    ensures { Reads Calls.collection_count (before heap slots scalars list directory cells) (answered (number result)) }
+    requires { Good (state heap slots.now scalars.now list.now directory.now cells.now) }
+    ensures { Reads Calls.collection_count (state heap slots.now scalars.now list.now directory.now cells.now) (answered (number result)) }
 {
     heap.collections
 }
@@ -324,8 +326,8 @@ pub fn freed_count(
     directory: &[u64],
     cells: &[u64],
 ) -> u64
-    requires { Good (lent heap slots scalars list directory cells) }
-    ensures { Reads Calls.freed_count (before heap slots scalars list directory cells) (answered (number result)) }
+    requires { Good (state heap slots.now scalars.now list.now directory.now cells.now) }
+    ensures { Reads Calls.freed_count (state heap slots.now scalars.now list.now directory.now cells.now) (answered (number result)) }
 {
     heap.freed
 }
@@ -339,8 +341,8 @@ pub fn used_bytes(
     directory: &[u64],
     cells: &[u64],
 ) -> u64
-    requires { Good (lent heap slots scalars list directory cells) }
-    ensures { Reads Calls.used_bytes (before heap slots scalars list directory cells) (answered (number result)) }
+    requires { Good (state heap slots.now scalars.now list.now directory.now cells.now) }
+    ensures { Reads Calls.used_bytes (state heap slots.now scalars.now list.now directory.now cells.now) (answered (number result)) }
 {
     let account = heap.account;
     account.used
@@ -355,8 +357,8 @@ pub fn present_count(
     directory: &[u64],
     cells: &[u64],
 ) -> u64
-    requires { Good (lent heap slots scalars list directory cells) }
-    ensures { Reads Calls.present_count (before heap slots scalars list directory cells) (answered (number result)) }
+    requires { Good (state heap slots.now scalars.now list.now directory.now cells.now) }
+    ensures { Reads Calls.present_count (state heap slots.now scalars.now list.now directory.now cells.now) (answered (number result)) }
 {
     heap.present
 }
@@ -370,8 +372,8 @@ pub fn cells_in_use(
     directory: &[u64],
     cells: &[u64],
 ) -> u64
-    requires { Good (lent heap slots scalars list directory cells) }
-    ensures { Reads Calls.cells_in_use (before heap slots scalars list directory cells) (answered (number result)) }
+    requires { Good (state heap slots.now scalars.now list.now directory.now cells.now) }
+    ensures { Reads Calls.cells_in_use (state heap slots.now scalars.now list.now directory.now cells.now) (answered (number result)) }
 {
     heap.taken
 }
@@ -488,7 +490,7 @@ pub fn open(
     directory: &[u64],
     cells: &[u64],
 ) -> Opened
-    ensures { Opens (opening_of size (length cells.now) limit weights layout.now) (before (new_heap size limit weights) slots scalars list directory cells) (beside table.old marks.old order.old) result (beside table.new marks.new order.new) }
+    ensures { Opens (opening_of size (length cells.now) limit weights layout.now) (state (new_heap size limit weights) slots.now scalars.now list.now directory.now cells.now) (beside table.old marks.old order.old) result (beside table.new marks.new order.new) }
 {
     if !sizes_fit(size, cells.len(), weights) {
         return Opened::Refused(Refusal::BadOpening);

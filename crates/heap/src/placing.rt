@@ -2,7 +2,7 @@
 ghost use Rattle.std.specs.Prelude.{◌≡◌, ◌+◌, ◌*◌, ◌≤◌, ◌<◌, length};
 ghost use Rattle.heap_slots.specs.FreeList.{taken_slot};
 ghost use Rattle.heap.specs.declared.Done.TheVariants.{Accepted};
-ghost use Rattle.heap.specs.State.{after, before, lent};
+ghost use Rattle.heap.specs.State.{state};
 ghost use Rattle.heap.specs.Good.{Good, coroutine_of};
 ghost use Rattle.heap.specs.Placing.{PlacesPlain, PlacesRegion, PlainObject, RegionObject, Roomy, Seatable, Seats, flag_of, judged_new};
 
@@ -100,8 +100,8 @@ pub fn place_plain(
     header: Header,
     bytes: u64,
 ) -> Made
-    requires { Good (lent heap slots scalars list directory cells) × (judged_new heap (length cells.now) bytes 0 ≡ Accepted) × PlainObject (lent heap slots scalars list directory cells) header }
-    ensures { PlacesPlain (before heap slots scalars list directory cells) header bytes result.answer (after result.heap slots scalars list directory cells) }
+    requires { Good (state heap slots.old scalars.now list.now directory.now cells.now) × (judged_new heap (length cells.now) bytes 0 ≡ Accepted) × PlainObject (state heap slots.old scalars.now list.now directory.now cells.now) header }
+    ensures { PlacesPlain (state heap slots.old scalars.now list.now directory.now cells.now) header bytes result.answer (state result.heap slots.new scalars.now list.now directory.now cells.now) }
 {
     let mut new = header;
     new.size = 0;
@@ -122,8 +122,8 @@ pub fn place_region(
     header: Header,
     bytes: u64,
 ) -> Made
-    requires { Good (lent heap slots scalars list directory cells) × (judged_new heap (length cells.now) bytes header.size ≡ Accepted) × (heap.top + header.size ≤ length cells.now) × (heap.entries < heap.size * 2) × RegionObject (lent heap slots scalars list directory cells) header }
-    ensures { PlacesRegion (before heap slots scalars list directory cells) header bytes result.answer (after result.heap slots scalars list directory cells) }
+    requires { Good (state heap slots.old scalars.now list.now directory.old cells.now) × (judged_new heap (length cells.now) bytes header.size ≡ Accepted) × (heap.top + header.size ≤ length cells.now) × (heap.entries < heap.size * 2) × RegionObject (state heap slots.old scalars.now list.now directory.old cells.now) header }
+    ensures { PlacesRegion (state heap slots.old scalars.now list.now directory.old cells.now) header bytes result.answer (state result.heap slots.new scalars.now list.now directory.new cells.now) }
 {
     let at = heap.entries as usize;
     directory[at] = next_slot(list, heap.fresh, heap.free);
@@ -148,8 +148,8 @@ pub fn make_room(
     cells: &mut [u64],
     size: u64,
 ) -> Heap
-    requires { Good (lent heap slots scalars list directory cells) × (heap.taken + size ≤ length cells.old) }
-    ensures { Roomy (before heap slots scalars list directory cells) (after result slots scalars list directory cells) size }
+    requires { Good (state heap slots.old scalars.now list.now directory.old cells.old) × (heap.taken + size ≤ length cells.old) }
+    ensures { Roomy (state heap slots.old scalars.now list.now directory.old cells.old) (state result slots.new scalars.now list.now directory.new cells.new) size }
 {
     let before = Top {
         cells: heap.top,

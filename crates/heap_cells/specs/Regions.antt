@@ -1,5 +1,5 @@
 -- Regions of the cells (document 01, "Slot and object": "contents need not stay in one place").
-use Rattle.std.specs.Prelude.{ℕ, zero, suc, ◌+◌, ◌*◌, ◌-◌, ◌≤◌, ◌<◌, ◌≡◌, ◌⊎◌, cond, List, ltb, length, get_or, take}
+use Rattle.std.specs.Prelude.{ℕ, zero, suc, ◌+◌, ◌*◌, ◌≤◌, ◌<◌, ◌≡◌, ◌⊎◌, cond, List, ltb, length, get_or, take}
 use Rattle.heap_slots.specs.Header.{header_at, with_region}
 use Rattle.heap_slots.specs.declared.Header.{Header}
 use Rattle.heap_slots.specs.Limits.{CELLS_MAX, DIRECTORY_MAX, SLOT_WORDS, SLOTS_MAX}

@@ -1,5 +1,7 @@
 // Regions of the lent cells: a directory lists their owners in address order; new regions go to the
 // top; compaction slides all regions down in the directory's order.
+#![tactic(auto)]
+
 ghost use Rattle.std.specs.Prelude.{◌≡◌, ◌++◌, ◌+◌, ◌*◌, ◌-◌, ◌≤◌, ◌<◌, length, take, drop};
 ghost use Rattle.heap_slots.specs.Limits.{CELLS_MAX, DIRECTORY_MAX};
 ghost use Rattle.heap_slots.specs.Header.{header_at};
@@ -9,7 +11,7 @@ ghost use Rattle.heap_cells.specs.Moves.{Moved, Filled, Copied, Packs, Unpacked,
 use heap_slots::Header;
 
 // cells: regions lie below it, and dead cells; entries: the directory's length.
-#[derive(Drop)]
+#[derive(Clone, Copy)]
 pub struct Top {
     pub cells: u64,
     pub entries: u64,

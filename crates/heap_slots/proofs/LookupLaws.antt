@@ -7,7 +7,6 @@ use mathlib.Core.List.{List}
 use native.Mathlib.Omega.{arith}
 use lib.ListN.{length, get_or}
 use lib.Dec.{eqb, ltb, leb}
-use lib.Ieee as Ieee
 use borrow.Author.Tests.{ltb-true, eqb-true, eqb-false, ne_eqb, eq-eqb, le-leb, lt-leb, lt-ltb}
 use Rattle.words.specs.Word.{by_kind, decode_word, low_raw, int_base, ref_slot, ref_tag}
 use Rattle.words.specs.WordLaws.{decode_int_range, decode_float_range, decode_ref_range, decode_low_range}

@@ -1,5 +1,5 @@
 -- Headers: eight words of a lent slice to a slot. Each header that differs from another, or is made from nothing, is written here.
-use Rattle.std.specs.Prelude.{ℕ, suc, ◌+◌, ◌*◌, List, [], ◌∷◌, get_or, set}
+use Rattle.std.specs.Prelude.{ℕ, ◌+◌, ◌*◌, List, [], ◌∷◌, get_or}
 use Rattle.heap_slots.specs.declared.Header.{Header}
 use Rattle.heap_slots.specs.Kinds.{NONE}
 use Rattle.heap_slots.specs.Limits.{SLOT_WORDS}

@@ -1,6 +1,8 @@
 // Slots: a header of eight words for each slot in one lent slice, eight more words for the kinds
 // that need them in a second one, the lookup of a word, and the free list. `kinds` has the rows of
 // the table of kinds, `limits` the numbers of slots, cells and references.
+#![tactic(auto)]
+
 pub mod kinds;
 pub mod limits;
 
@@ -17,7 +19,7 @@ use limits::{HALF, HALF_END, SLOT_WORDS, SPAN};
 // object the tag is the generation of its next one. kind: the object's row in the table of kinds,
 // 0 for none. start, size: its region of the cells; entry: the region's place in the directory.
 // value, mode and len are the kind's own.
-#[derive(Drop)]
+#[derive(Clone, Copy)]
 pub struct Header {
     pub half: u64,
     pub kind: u64,
@@ -30,7 +32,7 @@ pub struct Header {
 }
 
 // What a map, an iterator or a coroutine keeps beside its header.
-#[derive(Drop)]
+#[derive(Clone, Copy)]
 pub struct Scalars {
     pub a: u64,
     pub b: u64,
@@ -44,7 +46,7 @@ pub struct Scalars {
 
 // A map's scalars: the types of its keys and values, whether it is hashed, whether the noted key is
 // known, the noted key, the next sequence number, the epoch, the number of live entries.
-#[derive(Drop)]
+#[derive(Clone, Copy)]
 pub struct MapScalars {
     pub keys: u64,
     pub values: u64,
@@ -58,7 +60,7 @@ pub struct MapScalars {
 
 // An iterator's: whether it has ended; whether it stands at a key, and the key; of its cursor whether
 // it has stepped, the last sequence number, the position and the epoch.
-#[derive(Drop)]
+#[derive(Clone, Copy)]
 pub struct IteratorScalars {
     pub ended: u64,
     pub keyed: u64,
@@ -70,7 +72,7 @@ pub struct IteratorScalars {
 }
 
 // A coroutine's: whether it is finalized, its four words, the number of its frames.
-#[derive(Drop)]
+#[derive(Clone, Copy)]
 pub struct CoroutineScalars {
     pub finalized: u64,
     pub payload: u64,
@@ -93,7 +95,7 @@ pub const FRAMES: usize = 5;
 
 // At: the slot of the object that a word reaches. Dead: a reference that reaches nothing.
 // Wrong: neither nil nor a reference.
-#[derive(Drop)]
+#[derive(Clone, Copy)]
 pub enum FoundSlot {
     At(usize),
     Nil,
@@ -102,7 +104,7 @@ pub enum FoundSlot {
 }
 
 // The slot of a new object, the upper half of its reference, and the counts afterwards.
-#[derive(Drop)]
+#[derive(Clone, Copy)]
 pub struct TakenSlot {
     pub slot: u64,
     pub half: u64,

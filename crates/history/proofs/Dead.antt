@@ -4,7 +4,7 @@ use mathlib.Core.Path.{◌≡◌, refl, sym, ap, ◌∙◌}
 use mathlib.Core.Logic.{◌≢◌}
 use mathlib.Core.Bool.{Bool, true, false}
 use mathlib.Core.List.Memᴰ
-use mathlib.Core.List.{List, ◌∷◌, Memᴰ}
+use mathlib.Core.List.{[], List, ◌∷◌, Memᴰ}
 use mathlib.Core.Option.{Option, none, some}
 use native.Mathlib.Omega.{arith}
 use native.Mathlib.Decide.{dec_lt}
@@ -31,11 +31,13 @@ hit_self w p e = rw (eqb_yes (reference p) w e)
 
 hit-inside : (w : ℕ) (p : Allocation) (ps : List Allocation) → reference p ≡ w → Memᴰ p ps → 1 ≤ total (hit w) ps
 unfolding total
+hit-inside w p [] e x'' = elim x'' [ ]
 hit-inside w p (x ∷ ps) e (Memᴰ.head d) = let h = hit_self w x (ap reference (sym d) ∙ e) in omega (arith, h)
 hit-inside w p (x ∷ ps) e (Memᴰ.tail i) = let h = hit-inside w p ps e i in omega (arith, h)
 
 same-allocation : (w : ℕ) (p q : Allocation) (ps : List Allocation) → total (hit w) ps ≤ 1 → reference p ≡ w → reference q ≡ w → Memᴰ p ps → Memᴰ q ps → p ≡ q
 unfolding total
+same-allocation w p q [] l e f x5 _ = elim x5 [ ]
 same-allocation w p q (x ∷ ps) l e f (Memᴰ.head c) (Memᴰ.head d) = c ∙ sym d
 same-allocation w p q (x ∷ ps) l e f (Memᴰ.head c) (Memᴰ.tail j) = let h = hit_self w x (ap reference (sym c) ∙ e) in let k = hit-inside w q ps f j in absurd (omega (arith, h, k))
 same-allocation w p q (x ∷ ps) l e f (Memᴰ.tail i) (Memᴰ.head d) = let h = hit_self w x (ap reference (sym d) ∙ f) in let k = hit-inside w p ps e i in absurd (omega (arith, h, k))
@@ -44,6 +46,7 @@ same-allocation w p q (x ∷ ps) l e f (Memᴰ.tail i) (Memᴰ.tail j) = same-al
 -- ---- what its reference reads as
 
 gen-low : {i : ℕ} (p : Allocation) (ps : List Allocation) → Good i ps → Memᴰ p ps → p.gen < 32768
+gen-low {i = i} p [] _ x3 = elim x3 [ ]
 gen-low p (q ∷ ps) (newest a b c d g) (Memᴰ.head e) = rw (e, b) d
 gen-low p (q ∷ ps) (newest a b c d g) (Memᴰ.tail i) = gen-low p ps g i
 
@@ -73,7 +76,7 @@ module _ (m : Model) (b : History) (a : Agree m b) (p : Allocation) (i : Memᴰ 
     where
       go : Dec (p.slot < m.table.fresh) → p.slot < 65536
       go (yes l) = omega (arith, l, a.objects.room, a.objects.fits)
-      go (no l) = absurd (Memᴰ.not_nil (rw ((a.objects.at_slot p.slot).unused (omega arith)) at (mem-of_slot p b.allocations i)))
+      go (no l) = absurd (Memᴰ.not-nil (rw ((a.objects.at_slot p.slot).unused (omega arith)) at (mem-of_slot p b.allocations i)))
 
   issued_reads : Reads (reference p)
   issued_reads = reads_reference (reference p) _ (ref_in-word record { gen = p.gen; boxed = p.boxed; slot = p.slot } (gen-low p _ (a.objects.at_slot p.slot).good (mem-of_slot p b.allocations i)) low)

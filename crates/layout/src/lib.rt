@@ -2,19 +2,21 @@
 // checked once, and the places where their sections begin go into a lent table of 514 words, so
 // that a lookup reads its own section alone: words 0 to 255 for struct types, 256 to 511 for
 // functions, 512 and 513 how many there are of each.
+#![tactic(auto)]
+
 ghost use Rattle.std.specs.Prelude.{◌≡◌, true, ◌+◌, ◌≤◌, ◌<◌, length, get_or};
 ghost use Rattle.std.proofs.lemmas.List.Edits.{sets};
 ghost use Rattle.layout.specs.Sections.{is_layout, operand_bytes, starts, belongs, Continues, Tabled, LayoutRead, StructSection, FunctionSection};
 ghost use Rattle.layout.specs.Check.{ByteAt, allowed_by, section_of, counted_by, operand_at};
 
-#[derive(Drop)]
+#[derive(Clone, Copy)]
 pub enum Checked {
     Accepted,
     Refused,
 }
 
 // A number that a section lists, and where to go on; or the section's end.
-#[derive(Drop)]
+#[derive(Clone, Copy)]
 pub enum Listed {
     Number(u64, usize),
     End,

@@ -5,17 +5,23 @@ use borrow.Author.Rules.{rules}
 use Rattle.account.proofs.saturating_add.Statement.{statement}
 use Rattle.account.proofs.saturating_add.Tie as tie
 
-sub-if1 : tie.Need-overflow-sub-if1
-sub-if1 c = search rules
+overflow_sub-b : tie.Need-overflow_sub-b
+overflow_sub-b c = search rules
 
-add-result : tie.Need-overflow-add-result
-add-result c = search rules
+overflow_add-result : tie.Need-overflow_add-result
+overflow_add-result c = search rules
 
-returns : tie.Need-returns
-returns c = rw (saturated-below (c.before.args.a + c.before.args.b) (omega arith))
+returns-then-a-b : tie.Need-returns-then-a-b
+returns-then-a-b c = rw (saturated-below (c.args.a + c.args.b) (omega arith))
 
-returns-2 : tie.Need-returns-2
-returns-2 c = rw (saturated_above (c.before.args.a + c.before.args.b) (omega arith))
+returns-else-a-b : tie.Need-returns-else-a-b
+returns-else-a-b c = rw (saturated_above (c.args.a + c.args.b) (omega arith))
 
 pub saturating_add_spec : {M : Type 1} → statement M
-saturating_add_spec = tie.close (tie.spec sub-if1 add-result returns returns-2)
+saturating_add_spec =
+    tie.close
+    (tie.spec
+    overflow_sub-b
+    overflow_add-result
+    returns-then-a-b
+    returns-else-a-b)

@@ -7,4 +7,7 @@ returns : tie.Need-returns
 returns c = cells_read c.requires
 
 pub cells_in_use_spec : {M : Type 1} → statement M
-cells_in_use_spec = tie.close (tie.spec returns)
+cells_in_use_spec =
+    tie.close
+    (tie.spec
+    returns)

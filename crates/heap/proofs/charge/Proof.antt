@@ -8,19 +8,26 @@ use Rattle.heap.proofs.charge.Tie as tie
 charge-requires : tie.Need-charge-requires
 charge-requires c κs = search rules
 
-enum_told : tie.Need-enum-told
-enum_told c = search rules
+enum_told-1 : tie.Need-enum_told-1
+enum_told-1 c = search rules
 
-enum-known-next : tie.Need-enum-known-next
-enum-known-next c = search rules
+enum_known-next : tie.Need-enum_known-next
+enum_known-next c = search rules
 
-returns : tie.Need-returns
+returns-in-Refused : tie.Need-returns-in-Refused
 unfolding done_is
-returns c = charge-refused c.before.before.before.before.before.before.before.before.before.requires c.before.before.charge.ensures c.enum_told.given.1
+returns-in-Refused c = charge-refused c.requires c.charge.ensures c.in-Refused.is
 
-returns-2 : tie.Need-returns-2
+returns-in-Next : tie.Need-returns-in-Next
 unfolding done_is
-returns-2 c = charge-accepted c.before.before.before.before.before.before.before.before.before.before.requires c.before.before.before.charge.ensures c.before.next.given.1
+returns-in-Next c = charge-accepted c.requires c.charge.ensures c.in-Next.is
 
 pub charge_spec : {M : Type 1} → statement M
-charge_spec = tie.close (tie.spec charge-requires enum_told enum-known-next returns returns-2)
+charge_spec =
+    tie.close
+    (tie.spec
+    charge-requires
+    enum_told-1
+    enum_known-next
+    returns-in-Refused
+    returns-in-Next)

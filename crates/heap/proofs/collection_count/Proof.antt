@@ -7,4 +7,7 @@ returns : tie.Need-returns
 returns c = collections_read c.requires
 
 pub collection_count_spec : {M : Type 1} → statement M
-collection_count_spec = tie.close (tie.spec returns)
+collection_count_spec =
+    tie.close
+    (tie.spec
+    returns)

@@ -6,39 +6,39 @@ use borrow.Author.Rules.{rules}
 use Rattle.heap.proofs.deref.Statement.{statement}
 use Rattle.heap.proofs.deref.Tie as tie
 
-is-box-requires : tie.Need-is-box-requires
-is-box-requires c κs = search rules
+is_box-requires : tie.Need-is_box-requires
+is_box-requires c κs = search rules
 
-returns : tie.Need-returns
-returns c = deref_plain c.before.before.before.before.before.before.before.requires c.before.is-box.ensures (not-true _ c.if1.true)
+returns-then-not-is_box : tie.Need-returns-then-not-is_box
+returns-then-not-is_box c = deref_plain c.requires c.is_box.ensures (not-true _ c.if-not-is_box.true-raw)
 
 locate-requires : tie.Need-locate-requires
 locate-requires c κs = search rules
 
-enum-known-q : tie.Need-enum-known-q
-enum-known-q c = search rules
+enum_known-q : tie.Need-enum_known-q
+enum_known-q c = search rules
 
-enum-known-i : tie.Need-enum-known-i
-enum-known-i c = search rules
+enum_known-i : tie.Need-enum_known-i
+enum_known-i c = search rules
 
-read-header-requires : tie.Need-read-header-requires
-read-header-requires c κs = located_fits c.before.before.before.before.before.before.before.before.before.before.before.requires c.before.before.before.locate.ensures c.before.i.given.1
+read_header-h-requires : tie.Need-read_header-h-requires
+read_header-h-requires c κs = located_fits c.requires c.locate.ensures c.in-At.is
 
-returns-2 : tie.Need-returns-2
-returns-2 c = deref-refused c.before.before.before.before.before.before.before.before.before.before.before.requires c.before.before.before.before.before.is-box.ensures (not-false _ c.before.before.before.before.if1.false) c.before.before.before.locate.ensures c.before.q.given.1
+returns-in-Refused : tie.Need-returns-in-Refused
+returns-in-Refused c = deref-refused c.requires c.is_box.ensures (not-false _ c.if-not-is_box.false-raw) c.locate.ensures c.in-Refused.is
 
-returns-3 : tie.Need-returns-3
-returns-3 c = deref-at c.before.before.before.before.before.before.before.before.before.before.before.before.requires c.before.before.before.before.before.before.is-box.ensures (not-false _ c.before.before.before.before.before.if1.false) c.before.before.before.before.locate.ensures c.before.before.i.given.1 c.read-header.ensures
+returns-in-At : tie.Need-returns-in-At
+returns-in-At c = deref-at c.requires c.is_box.ensures (not-false _ c.if-not-is_box.false-raw) c.locate.ensures c.in-At.is c.read_header-h.ensures
 
 pub deref_spec : {M : Type 1} → statement M
 deref_spec =
     tie.close
     (tie.spec
-    is-box-requires
-    returns
+    is_box-requires
+    returns-then-not-is_box
     locate-requires
-    enum-known-q
-    enum-known-i
-    read-header-requires
-    returns-2
-    returns-3)
+    enum_known-q
+    enum_known-i
+    read_header-h-requires
+    returns-in-Refused
+    returns-in-At)

@@ -8,7 +8,11 @@ allows-requires : tie.Need-allows-requires
 allows-requires c κs = search rules
 
 returns : tie.Need-returns
-returns c = fits_read c.before.before.before.before.before.before.before.requires c.allows.ensures
+returns c = fits_read c.requires c.allows.ensures
 
 pub fits_spec : {M : Type 1} → statement M
-fits_spec = tie.close (tie.spec allows-requires returns)
+fits_spec =
+    tie.close
+    (tie.spec
+    allows-requires
+    returns)

@@ -7,4 +7,7 @@ returns : tie.Need-returns
 returns c = freed_read c.requires
 
 pub freed_count_spec : {M : Type 1} → statement M
-freed_count_spec = tie.close (tie.spec returns)
+freed_count_spec =
+    tie.close
+    (tie.spec
+    returns)

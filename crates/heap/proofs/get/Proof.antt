@@ -4,11 +4,15 @@ use borrow.Author.Rules.{rules}
 use Rattle.heap.proofs.get.Statement.{statement}
 use Rattle.heap.proofs.get.Tie as tie
 
-row-at-requires : tie.Need-row-at-requires
-row-at-requires c κs = search rules
+row_at-requires : tie.Need-row_at-requires
+row_at-requires c κs = search rules
 
 returns : tie.Need-returns
-returns c = get_read c.before.before.before.before.before.before.requires c.row_at.ensures
+returns c = get_read c.requires c.row_at.ensures
 
 pub get_spec : {M : Type 1} → statement M
-get_spec = tie.close (tie.spec row-at-requires returns)
+get_spec =
+    tie.close
+    (tie.spec
+    row_at-requires
+    returns)

@@ -5,72 +5,72 @@ use Rattle.heap.specs.Answers.{kind_number}
 use Rattle.heap.proofs.kind_at.Statement.{statement}
 use Rattle.heap.proofs.kind_at.Tie as tie
 
-returns : tie.Need-returns
+returns-in-1 : tie.Need-returns-in-1
 unfolding kind_number
-returns c = omega arith
+returns-in-1 c = omega arith
 
-returns-2 : tie.Need-returns-2
+returns-in-2 : tie.Need-returns-in-2
 unfolding kind_number
-returns-2 c = omega arith
+returns-in-2 c = omega arith
 
-returns-3 : tie.Need-returns-3
+returns-in-3 : tie.Need-returns-in-3
 unfolding kind_number
-returns-3 c = omega arith
+returns-in-3 c = omega arith
 
-returns-4 : tie.Need-returns-4
+returns-in-4 : tie.Need-returns-in-4
 unfolding kind_number
-returns-4 c = omega arith
+returns-in-4 c = omega arith
 
-returns-5 : tie.Need-returns-5
+returns-in-5 : tie.Need-returns-in-5
 unfolding kind_number
-returns-5 c = omega arith
+returns-in-5 c = omega arith
 
-returns-6 : tie.Need-returns-6
+returns-in-6 : tie.Need-returns-in-6
 unfolding kind_number
-returns-6 c = omega arith
+returns-in-6 c = omega arith
 
-returns-7 : tie.Need-returns-7
+returns-in-7 : tie.Need-returns-in-7
 unfolding kind_number
-returns-7 c = omega arith
+returns-in-7 c = omega arith
 
-returns-8 : tie.Need-returns-8
+returns-in-8 : tie.Need-returns-in-8
 unfolding kind_number
-returns-8 c = omega arith
+returns-in-8 c = omega arith
 
-returns-9 : tie.Need-returns-9
+returns-in-9 : tie.Need-returns-in-9
 unfolding kind_number
-returns-9 c = omega arith
+returns-in-9 c = omega arith
 
-returns-10 : tie.Need-returns-10
+returns-in-10 : tie.Need-returns-in-10
 unfolding kind_number
-returns-10 c = omega arith
+returns-in-10 c = omega arith
 
-returns-11 : tie.Need-returns-11
+returns-in-11 : tie.Need-returns-in-11
 unfolding kind_number
-returns-11 c = omega arith
+returns-in-11 c = omega arith
 
-returns-12 : tie.Need-returns-12
+returns-in-15 : tie.Need-returns-in-15
 unfolding kind_number
-returns-12 c = omega arith
+returns-in-15 c = omega arith
 
-returns-13 : tie.Need-returns-13
+returns-in_default : tie.Need-returns-in_default
 unfolding kind_number
-returns-13 c = row-none c.before.args.row c.before.requires c.match.rest.0.0.0.0.0.0.0.0.0.0.0.1 c.match.rest.0.0.0.0.0.0.0.0.0.0.1 c.match.rest.0.0.0.0.0.0.0.0.0.1 c.match.rest.0.0.0.0.0.0.0.0.1 c.match.rest.0.0.0.0.0.0.0.1 c.match.rest.0.0.0.0.0.0.1 c.match.rest.0.0.0.0.0.1 c.match.rest.0.0.0.0.1 c.match.rest.0.0.0.1 c.match.rest.0.0.1 c.match.rest.0.1 c.match.rest.1
+returns-in_default c = row-none c.args.row c.requires c.in_default.in_default-own.rest.0.0.0.0.0.0.0.0.0.0.0.1 c.in_default.in_default-own.rest.0.0.0.0.0.0.0.0.0.0.1 c.in_default.in_default-own.rest.0.0.0.0.0.0.0.0.0.1 c.in_default.in_default-own.rest.0.0.0.0.0.0.0.0.1 c.in_default.in_default-own.rest.0.0.0.0.0.0.0.1 c.in_default.in_default-own.rest.0.0.0.0.0.0.1 c.in_default.in_default-own.rest.0.0.0.0.0.1 c.in_default.in_default-own.rest.0.0.0.0.1 c.in_default.in_default-own.rest.0.0.0.1 c.in_default.in_default-own.rest.0.0.1 c.in_default.in_default-own.rest.0.1 c.in_default.in_default-own.rest.1
 
 pub kind_at_spec : {M : Type 1} → statement M
 kind_at_spec =
     tie.close
     (tie.spec
-    returns
-    returns-2
-    returns-3
-    returns-4
-    returns-5
-    returns-6
-    returns-7
-    returns-8
-    returns-9
-    returns-10
-    returns-11
-    returns-12
-    returns-13)
+    returns-in-1
+    returns-in-2
+    returns-in-3
+    returns-in-4
+    returns-in-5
+    returns-in-6
+    returns-in-7
+    returns-in-8
+    returns-in-9
+    returns-in-10
+    returns-in-11
+    returns-in-15
+    returns-in_default)

@@ -9,69 +9,69 @@ use Rattle.heap.proofs.kind_of.Tie as tie
 decode-requires : tie.Need-decode-requires
 decode-requires c κs = search rules
 
-enum_told : tie.Need-enum-told
-enum_told c = search rules
+enum_told-1 : tie.Need-enum_told-1
+enum_told-1 c = search rules
 
-enum-known-b : tie.Need-enum-known-b
-enum-known-b c = search rules
+enum_known-b : tie.Need-enum_known-b
+enum_known-b c = search rules
 
-enum-known-z : tie.Need-enum-known-z
-enum-known-z c = search rules
+enum_known-z : tie.Need-enum_known-z
+enum_known-z c = search rules
 
-enum-known-x : tie.Need-enum-known-x
-enum-known-x c = search rules
+enum_known-x : tie.Need-enum_known-x
+enum_known-x c = search rules
 
-enum-known-c : tie.Need-enum-known-c
-enum-known-c c = search rules
+enum_known-c : tie.Need-enum_known-c
+enum_known-c c = search rules
 
-enum-known-slot : tie.Need-enum-known-slot
-enum-known-slot c = search rules
+enum_known-slot : tie.Need-enum_known-slot
+enum_known-slot c = search rules
 
-row-at-requires : tie.Need-row-at-requires
-row-at-requires c κs = search rules
+row_at-requires : tie.Need-row_at-requires
+row_at-requires c κs = search rules
 
-kind-at-requires : tie.Need-kind-at-requires
-kind-at-requires c κs = row-max c.before.before.before.before.before.before.before.before.before.before.requires c.row_at.ensures
+kind_at-requires : tie.Need-kind_at-requires
+kind_at-requires c κs = row-max c.requires c.row_at.ensures
 
-returns : tie.Need-returns
+returns-in-Nil : tie.Need-returns-in-Nil
 unfolding kind_number
-returns c = kind-nil c.before.before.before.before.before.before.before.before.requires ((sym c.enum_told.given.1) ∙ c.before.before.decode.ensures)
+returns-in-Nil c = kind-nil c.requires ((sym c.in-Nil.is) ∙ c.decode.ensures)
 
-returns-2 : tie.Need-returns-2
+returns-in-Bool : tie.Need-returns-in-Bool
 unfolding kind_number
-returns-2 c = kind-truth c.before.before.before.before.before.before.before.before.before.requires ((sym c.before.b.given.1) ∙ c.before.before.before.decode.ensures)
+returns-in-Bool c = kind-truth c.requires ((sym c.in-Bool.is) ∙ c.decode.ensures)
 
-returns-3 : tie.Need-returns-3
+returns-in-Int : tie.Need-returns-in-Int
 unfolding kind_number
-returns-3 c = kind-integer c.before.before.before.before.before.before.before.before.before.requires ((sym c.before.z.given.1) ∙ c.before.before.before.decode.ensures)
+returns-in-Int c = kind-integer c.requires ((sym c.in-Int.is) ∙ c.decode.ensures)
 
-returns-4 : tie.Need-returns-4
+returns-in-Float : tie.Need-returns-in-Float
 unfolding kind_number
-returns-4 c = kind_float c.before.before.before.before.before.before.before.before.before.requires ((sym c.before.x.given.1) ∙ c.before.before.before.decode.ensures)
+returns-in-Float c = kind_float c.requires ((sym c.in-Float.is) ∙ c.decode.ensures)
 
-returns-5 : tie.Need-returns-5
+returns-in-Char : tie.Need-returns-in-Char
 unfolding kind_number
-returns-5 c = kind_character c.before.before.before.before.before.before.before.before.before.requires ((sym c.before.c.given.1) ∙ c.before.before.before.decode.ensures)
+returns-in-Char c = kind_character c.requires ((sym c.in-Char.is) ∙ c.decode.ensures)
 
-returns-6 : tie.Need-returns-6
-returns-6 c = rw c.kind_at.ensures (kind-object c.before.before.before.before.before.before.before.before.before.before.before.requires ((sym c.before.before.before.slot.given.1) ∙ c.before.before.before.before.before.decode.ensures) c.before.row_at.ensures)
+returns-in-Ref : tie.Need-returns-in-Ref
+returns-in-Ref c = rw c.kind_at.ensures (kind-object c.requires ((sym c.in-Ref.is) ∙ c.decode.ensures) c.row_at.ensures)
 
 pub kind_of_spec : {M : Type 1} → statement M
 kind_of_spec =
     tie.close
     (tie.spec
     decode-requires
-    enum_told
-    enum-known-b
-    enum-known-z
-    enum-known-x
-    enum-known-c
-    enum-known-slot
-    row-at-requires
-    kind-at-requires
-    returns
-    returns-2
-    returns-3
-    returns-4
-    returns-5
-    returns-6)
+    enum_told-1
+    enum_known-b
+    enum_known-z
+    enum_known-x
+    enum_known-c
+    enum_known-slot
+    row_at-requires
+    kind_at-requires
+    returns-in-Nil
+    returns-in-Bool
+    returns-in-Int
+    returns-in-Float
+    returns-in-Char
+    returns-in-Ref)

@@ -4,106 +4,106 @@ use borrow.Author.Rules.{rules}
 use Rattle.heap.proofs.number_of.Statement.{statement}
 use Rattle.heap.proofs.number_of.Tie as tie
 
-enum_told : tie.Need-enum-told
-enum_told c = search rules
+enum_told-1 : tie.Need-enum_told-1
+enum_told-1 c = search rules
 
-enum-told-2 : tie.Need-enum-told-2
-enum-told-2 c = search rules
+enum_told-in-OtherKind : tie.Need-enum_told-in-OtherKind
+enum_told-in-OtherKind c = search rules
 
-enum-told-3 : tie.Need-enum-told-3
-enum-told-3 c = search rules
+enum_told-in-Outside : tie.Need-enum_told-in-Outside
+enum_told-in-Outside c = search rules
 
-enum-told-4 : tie.Need-enum-told-4
-enum-told-4 c = search rules
+enum_told-in-BadType : tie.Need-enum_told-in-BadType
+enum_told-in-BadType c = search rules
 
-enum-told-5 : tie.Need-enum-told-5
-enum-told-5 c = search rules
+enum_told-in-OverBudget : tie.Need-enum_told-in-OverBudget
+enum_told-in-OverBudget c = search rules
 
-enum-told-6 : tie.Need-enum-told-6
-enum-told-6 c = search rules
+enum_told-in-NoSlot : tie.Need-enum_told-in-NoSlot
+enum_told-in-NoSlot c = search rules
 
-enum-told-7 : tie.Need-enum-told-7
-enum-told-7 c = search rules
+enum_told-in-NoCells : tie.Need-enum_told-in-NoCells
+enum_told-in-NoCells c = search rules
 
-enum-told-8 : tie.Need-enum-told-8
-enum-told-8 c = search rules
+enum_told-in-TooShort : tie.Need-enum_told-in-TooShort
+enum_told-in-TooShort c = search rules
 
-enum-told-9 : tie.Need-enum-told-9
-enum-told-9 c = search rules
+enum_told-in-Spent : tie.Need-enum_told-in-Spent
+enum_told-in-Spent c = search rules
 
-enum-told-10 : tie.Need-enum-told-10
-enum-told-10 c = search rules
+enum_told-in-BadOpening : tie.Need-enum_told-in-BadOpening
+enum_told-in-BadOpening c = search rules
 
-enum-told-11 : tie.Need-enum-told-11
-enum-told-11 c = search rules
+enum_told-in-DeadReference : tie.Need-enum_told-in-DeadReference
+enum_told-in-DeadReference c = search rules
 
-returns : tie.Need-returns
+returns-in-NilTarget : tie.Need-returns-in-NilTarget
 unfolding number_of
-returns c = search rules
+returns-in-NilTarget c = search rules
 
-returns-2 : tie.Need-returns-2
+returns-in-OtherKind : tie.Need-returns-in-OtherKind
 unfolding number_of
-returns-2 c = search rules
+returns-in-OtherKind c = search rules
 
-returns-3 : tie.Need-returns-3
+returns-in-Outside : tie.Need-returns-in-Outside
 unfolding number_of
-returns-3 c = search rules
+returns-in-Outside c = search rules
 
-returns-4 : tie.Need-returns-4
+returns-in-BadType : tie.Need-returns-in-BadType
 unfolding number_of
-returns-4 c = search rules
+returns-in-BadType c = search rules
 
-returns-5 : tie.Need-returns-5
+returns-in-OverBudget : tie.Need-returns-in-OverBudget
 unfolding number_of
-returns-5 c = search rules
+returns-in-OverBudget c = search rules
 
-returns-6 : tie.Need-returns-6
+returns-in-NoSlot : tie.Need-returns-in-NoSlot
 unfolding number_of
-returns-6 c = search rules
+returns-in-NoSlot c = search rules
 
-returns-7 : tie.Need-returns-7
+returns-in-NoCells : tie.Need-returns-in-NoCells
 unfolding number_of
-returns-7 c = search rules
+returns-in-NoCells c = search rules
 
-returns-8 : tie.Need-returns-8
+returns-in-TooShort : tie.Need-returns-in-TooShort
 unfolding number_of
-returns-8 c = search rules
+returns-in-TooShort c = search rules
 
-returns-9 : tie.Need-returns-9
+returns-in-Spent : tie.Need-returns-in-Spent
 unfolding number_of
-returns-9 c = search rules
+returns-in-Spent c = search rules
 
-returns-10 : tie.Need-returns-10
+returns-in-BadOpening : tie.Need-returns-in-BadOpening
 unfolding number_of
-returns-10 c = search rules
+returns-in-BadOpening c = search rules
 
-returns-11 : tie.Need-returns-11
+returns-in-DeadReference : tie.Need-returns-in-DeadReference
 unfolding number_of
-returns-11 c = search rules
+returns-in-DeadReference c = search rules
 
 pub number_of_spec : {M : Type 1} → statement M
 number_of_spec =
     tie.close
     (tie.spec
-    enum_told
-    enum-told-2
-    enum-told-3
-    enum-told-4
-    enum-told-5
-    enum-told-6
-    enum-told-7
-    enum-told-8
-    enum-told-9
-    enum-told-10
-    enum-told-11
-    returns
-    returns-2
-    returns-3
-    returns-4
-    returns-5
-    returns-6
-    returns-7
-    returns-8
-    returns-9
-    returns-10
-    returns-11)
+    enum_told-1
+    enum_told-in-OtherKind
+    enum_told-in-Outside
+    enum_told-in-BadType
+    enum_told-in-OverBudget
+    enum_told-in-NoSlot
+    enum_told-in-NoCells
+    enum_told-in-TooShort
+    enum_told-in-Spent
+    enum_told-in-BadOpening
+    enum_told-in-DeadReference
+    returns-in-NilTarget
+    returns-in-OtherKind
+    returns-in-Outside
+    returns-in-BadType
+    returns-in-OverBudget
+    returns-in-NoSlot
+    returns-in-NoCells
+    returns-in-TooShort
+    returns-in-Spent
+    returns-in-BadOpening
+    returns-in-DeadReference)

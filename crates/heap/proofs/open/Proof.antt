@@ -10,77 +10,77 @@ use borrow.Author.Rules.{rules}
 use Rattle.heap.proofs.open.Statement.{statement}
 use Rattle.heap.proofs.open.Tie as tie
 
-sizes-fit-requires : tie.Need-sizes-fit-requires
-sizes-fit-requires c κs = search rules
+sizes_fit-requires : tie.Need-sizes_fit-requires
+sizes_fit-requires c κs = search rules
 
-returns : tie.Need-returns
+returns-then-not-sizes_fit : tie.Need-returns-then-not-sizes_fit
 unfolding sizes_fit
-returns c = opens-refused (sizes_short _ _ _ (sym c.before.sizes-fit.ensures ∙ not-true _ c.if1.true))
+returns-then-not-sizes_fit c = opens-refused (sizes_short _ _ _ (sym c.sizes_fit.ensures ∙ not-true _ c.if-not-sizes_fit.true-raw))
 
-has-room-requires : tie.Need-has-room-requires
-has-room-requires c κs = slots-below _ (sym c.before.sizes-fit.ensures ∙ not-false _ c.if1.false)
+has_room-requires : tie.Need-has_room-requires
+has_room-requires c κs = slots-below _ (sym c.sizes_fit.ensures ∙ not-false _ c.if-not-sizes_fit.false-raw)
 
-returns-2 : tie.Need-returns-2
-returns-2 c = opens-refused (room-short _ _ _ (sym c.before.has_room.ensures ∙ not-true _ c.if2.true))
+returns-then-not-has_room : tie.Need-returns-then-not-has_room
+returns-then-not-has_room c = opens-refused (room-short _ _ _ (sym c.has_room.ensures ∙ not-true _ c.if-not-has_room.true-raw))
 
-read-layout-requires : tie.Need-read-layout-requires
-read-layout-requires c κs = search rules
+read_layout-requires : tie.Need-read_layout-requires
+read_layout-requires c κs = search rules
 
-enum_told : tie.Need-enum-told
-enum_told c = search rules
+enum_told-1 : tie.Need-enum_told-1
+enum_told-1 c = search rules
 
-enum-told-2 : tie.Need-enum-told-2
-enum-told-2 c = search rules
+enum_told-in-Accepted : tie.Need-enum_told-in-Accepted
+enum_told-in-Accepted c = search rules
 
-clear-marks-requires : tie.Need-clear-marks-requires
-clear-marks-requires c κs = (room_so _ _ _ _ _ _ _ (sym c.before.before.before.before.before.before.before.before.has_room.ensures ∙ not-false _ c.before.before.before.before.before.before.before.if2.false)).marks_fit
+clear_marks-requires : tie.Need-clear_marks-requires
+clear_marks-requires c κs = (room_so _ _ _ _ _ _ _ (sym c.has_room.ensures ∙ not-false _ c.if-not-has_room.false-raw)).marks_fit
 
-mul-clear-order : tie.Need-overflow-mul-clear-order
-mul-clear-order c = omega (arith, slots-below _ (sym c.before.before.before.before.before.before.before.before.before.before.before.before.before.before.sizes-fit.ensures ∙ not-false _ c.before.before.before.before.before.before.before.before.before.before.before.before.before.if1.false))
+overflow_mul-n : tie.Need-overflow_mul-n
+overflow_mul-n c = omega (arith, slots-below _ (sym c.sizes_fit.ensures ∙ not-false _ c.if-not-sizes_fit.false-raw))
 
-clear-order-requires : tie.Need-clear-order-requires
-clear-order-requires c κs = (room_so _ _ _ _ _ _ _ (sym c.before.before.before.before.before.before.before.before.before.before.before.before.has_room.ensures ∙ not-false _ c.before.before.before.before.before.before.before.before.before.before.before.if2.false)).order_fit
+clear_order-requires : tie.Need-clear_order-requires
+clear_order-requires c κs = (room_so _ _ _ _ _ _ _ (sym c.has_room.ensures ∙ not-false _ c.if-not-has_room.false-raw)).order_fit
 
-new-heap-requires : tie.Need-new-heap-requires
-new-heap-requires c κs = search rules
+new_heap-requires : tie.Need-new_heap-requires
+new_heap-requires c κs = search rules
 
-same_length : tie.Need-same-length
-same_length c = search rules
+shape_of-table-in-Refused : tie.Need-shape_of-table-in-Refused
+shape_of-table-in-Refused c = search rules
 
-returns-3 : tie.Need-returns-3
-returns-3 c = opens-unread c.before.before.before.before.read-layout.ensures c.enum_told.given.1
+returns-in-Refused : tie.Need-returns-in-Refused
+returns-in-Refused c = opens-unread c.read_layout.ensures c.in-Refused.is
 
-same-length-2 : tie.Need-same-length-2
-same-length-2 c = search rules
+shape_of-table-in-Accepted : tie.Need-shape_of-table-in-Accepted
+shape_of-table-in-Accepted c = search rules
 
-same-length-3 : tie.Need-same-length-3
-same-length-3 c = search rules
+shape_of-marks : tie.Need-shape_of-marks
+shape_of-marks c = search rules
 
-same-length-4 : tie.Need-same-length-4
-same-length-4 c = search rules
+shape_of-order : tie.Need-shape_of-order
+shape_of-order c = search rules
 
-returns-4 : tie.Need-returns-4
+returns-in-Accepted : tie.Need-returns-in-Accepted
 unfolding sizes_fit
-returns-4 c = rw c.new-heap.ensures (opens-accepted (opening_of c.before.before.before.before.before.before.before.before.before.before.before.before.before.before.before.before.before.before.before.before.before.before.before.before.before.before.before.before.args.size (length c.before.before.before.before.before.before.before.before.before.before.before.before.before.before.before.before.before.before.before.before.before.before.before.before.before.before.before.before.args.cells.now) c.before.before.before.before.before.before.before.before.before.before.before.before.before.before.before.before.before.before.before.before.before.before.before.before.before.before.before.before.args.limit c.before.before.before.before.before.before.before.before.before.before.before.before.before.before.before.before.before.before.before.before.before.before.before.before.before.before.before.before.args.weights c.before.before.before.before.before.before.before.before.before.before.before.before.before.before.before.before.before.before.before.before.before.before.before.before.before.before.before.before.args.layout.now) _ _ _ _ _ (beside c.before.before.before.before.before.before.before.before.before.before.before.before.before.before.before.before.before.before.before.before.before.before.before.before.before.before.before.before.args.table.now c.before.before.before.before.before.before.before.before.before.before.before.before.before.before.before.before.before.before.before.before.before.before.before.before.before.before.before.before.args.marks.now c.before.before.before.before.before.before.before.before.before.before.before.before.before.before.before.before.before.before.before.before.before.before.before.before.before.before.before.before.args.order.now) (sym c.before.before.before.before.before.before.before.before.before.before.before.before.before.before.before.before.before.before.sizes-fit.ensures ∙ not-false _ c.before.before.before.before.before.before.before.before.before.before.before.before.before.before.before.before.before.if1.false) refl (sym c.before.before.before.before.before.before.before.before.before.before.before.before.before.before.before.before.has_room.ensures ∙ not-false _ c.before.before.before.before.before.before.before.before.before.before.before.before.before.before.before.if2.false) c.before.before.before.before.before.before.before.before.before.before.before.before.before.read-layout.ensures c.before.before.before.before.before.before.before.before.before.enum-told2.given.1 c.before.before.before.before.before.before.before.clear-marks.ensures c.before.before.before.clear-order.ensures)
+returns-in-Accepted c = rw c.new_heap.ensures (opens-accepted (opening_of c.args.size (length c.args.cells.now) c.args.limit c.args.weights c.args.layout.now) _ _ _ _ _ (beside c.args.table.now c.args.marks.now c.args.order.now) (sym c.sizes_fit.ensures ∙ not-false _ c.if-not-sizes_fit.false-raw) refl (sym c.has_room.ensures ∙ not-false _ c.if-not-has_room.false-raw) c.read_layout.ensures c.in-Accepted.is c.clear_marks.ensures c.clear_order.ensures)
 
 pub open_spec : {M : Type 1} → statement M
 open_spec =
     tie.close
     (tie.spec
-    sizes-fit-requires
-    returns
-    has-room-requires
-    returns-2
-    read-layout-requires
-    enum_told
-    enum-told-2
-    clear-marks-requires
-    mul-clear-order
-    clear-order-requires
-    new-heap-requires
-    same_length
-    returns-3
-    same-length-2
-    same-length-3
-    same-length-4
-    returns-4)
+    sizes_fit-requires
+    returns-then-not-sizes_fit
+    has_room-requires
+    returns-then-not-has_room
+    read_layout-requires
+    enum_told-1
+    enum_told-in-Accepted
+    clear_marks-requires
+    overflow_mul-n
+    clear_order-requires
+    new_heap-requires
+    shape_of-table-in-Refused
+    returns-in-Refused
+    shape_of-table-in-Accepted
+    shape_of-marks
+    shape_of-order
+    returns-in-Accepted)

@@ -7,4 +7,7 @@ returns : tie.Need-returns
 returns c = present_read c.requires
 
 pub present_count_spec : {M : Type 1} → statement M
-present_count_spec = tie.close (tie.spec returns)
+present_count_spec =
+    tie.close
+    (tie.spec
+    returns)

@@ -4,7 +4,10 @@ use Rattle.heap.proofs.used_bytes.Statement.{statement}
 use Rattle.heap.proofs.used_bytes.Tie as tie
 
 returns : tie.Need-returns
-returns c = used_read c.before.requires
+returns c = used_read c.requires
 
 pub used_bytes_spec : {M : Type 1} → statement M
-used_bytes_spec = tie.close (tie.spec returns)
+used_bytes_spec =
+    tie.close
+    (tie.spec
+    returns)

@@ -5,47 +5,47 @@ use borrow.Author.Rules.{rules}
 use Rattle.heap.proofs.weights_fit.Statement.{statement}
 use Rattle.heap.proofs.weights_fit.Tie as tie
 
-weight-fits-requires : tie.Need-weight-fits-requires
-weight-fits-requires c κs = search rules
+weight_fits-requires : tie.Need-weight_fits-requires
+weight_fits-requires c κs = search rules
+
+returns-then-not-weight_fits : tie.Need-returns-then-not-weight_fits
+returns-then-not-weight_fits c = rw (sym c.weight_fits.ensures ∙ not-true _ c.if-not-weight_fits.true-raw)
+
+weight_fits-requires-2 : tie.Need-weight_fits-requires-2
+weight_fits-requires-2 c κs = search rules
+
+returns-then-not-weight_fits-2 : tie.Need-returns-then-not-weight_fits-2
+returns-then-not-weight_fits-2 c = rw (sym c.weight_fits.ensures ∙ not-false _ c.if-not-weight_fits.false-raw, sym c.weight_fits-2.ensures ∙ not-true _ c.if-not-weight_fits-2.true-raw)
+
+weight_fits-requires-3 : tie.Need-weight_fits-requires-3
+weight_fits-requires-3 c κs = search rules
+
+returns-then-not-weight_fits-3 : tie.Need-returns-then-not-weight_fits-3
+returns-then-not-weight_fits-3 c = rw (sym c.weight_fits.ensures ∙ not-false _ c.if-not-weight_fits.false-raw, sym c.weight_fits-2.ensures ∙ not-false _ c.if-not-weight_fits-2.false-raw, sym c.weight_fits-3.ensures ∙ not-true _ c.if-not-weight_fits-3.true-raw)
+
+weight_fits-requires-4 : tie.Need-weight_fits-requires-4
+weight_fits-requires-4 c κs = search rules
+
+returns-then-not-weight_fits-4 : tie.Need-returns-then-not-weight_fits-4
+returns-then-not-weight_fits-4 c = rw (sym c.weight_fits.ensures ∙ not-false _ c.if-not-weight_fits.false-raw, sym c.weight_fits-2.ensures ∙ not-false _ c.if-not-weight_fits-2.false-raw, sym c.weight_fits-3.ensures ∙ not-false _ c.if-not-weight_fits-3.false-raw, sym c.weight_fits-4.ensures ∙ not-true _ c.if-not-weight_fits-4.true-raw)
+
+weight_fits-requires-5 : tie.Need-weight_fits-requires-5
+weight_fits-requires-5 c κs = search rules
 
 returns : tie.Need-returns
-returns c = rw (sym c.before.weight-fits.ensures ∙ not-true _ c.if1.true)
-
-weight-fits-requires-2 : tie.Need-weight-fits-requires-2
-weight-fits-requires-2 c κs = search rules
-
-returns-2 : tie.Need-returns-2
-returns-2 c = rw (sym c.before.before.before.weight-fits.ensures ∙ not-false _ c.before.before.if1.false, sym c.before.weight-fits2.ensures ∙ not-true _ c.if2.true)
-
-weight-fits-requires-3 : tie.Need-weight-fits-requires-3
-weight-fits-requires-3 c κs = search rules
-
-returns-3 : tie.Need-returns-3
-returns-3 c = rw (sym c.before.before.before.before.before.weight-fits.ensures ∙ not-false _ c.before.before.before.before.if1.false, sym c.before.before.before.weight-fits2.ensures ∙ not-false _ c.before.before.if2.false, sym c.before.weight-fits3.ensures ∙ not-true _ c.if3.true)
-
-weight-fits-requires-4 : tie.Need-weight-fits-requires-4
-weight-fits-requires-4 c κs = search rules
-
-returns-4 : tie.Need-returns-4
-returns-4 c = rw (sym c.before.before.before.before.before.before.before.weight-fits.ensures ∙ not-false _ c.before.before.before.before.before.before.if1.false, sym c.before.before.before.before.before.weight-fits2.ensures ∙ not-false _ c.before.before.before.before.if2.false, sym c.before.before.before.weight-fits3.ensures ∙ not-false _ c.before.before.if3.false, sym c.before.weight-fits4.ensures ∙ not-true _ c.if4.true)
-
-weight-fits-requires-5 : tie.Need-weight-fits-requires-5
-weight-fits-requires-5 c κs = search rules
-
-returns-5 : tie.Need-returns-5
-returns-5 c = rw (sym c.before.before.before.before.before.before.before.before.weight-fits.ensures ∙ not-false _ c.before.before.before.before.before.before.before.if1.false, sym c.before.before.before.before.before.before.weight-fits2.ensures ∙ not-false _ c.before.before.before.before.before.if2.false, sym c.before.before.before.before.weight-fits3.ensures ∙ not-false _ c.before.before.before.if3.false, sym c.before.before.weight-fits4.ensures ∙ not-false _ c.before.if4.false) c.weight-fits5.ensures
+returns c = rw (sym c.weight_fits.ensures ∙ not-false _ c.if-not-weight_fits.false-raw, sym c.weight_fits-2.ensures ∙ not-false _ c.if-not-weight_fits-2.false-raw, sym c.weight_fits-3.ensures ∙ not-false _ c.if-not-weight_fits-3.false-raw, sym c.weight_fits-4.ensures ∙ not-false _ c.if-not-weight_fits-4.false-raw) c.weight_fits-5.ensures
 
 pub weights_fit_spec : {M : Type 1} → statement M
 weights_fit_spec =
     tie.close
     (tie.spec
-    weight-fits-requires
-    returns
-    weight-fits-requires-2
-    returns-2
-    weight-fits-requires-3
-    returns-3
-    weight-fits-requires-4
-    returns-4
-    weight-fits-requires-5
-    returns-5)
+    weight_fits-requires
+    returns-then-not-weight_fits
+    weight_fits-requires-2
+    returns-then-not-weight_fits-2
+    weight_fits-requires-3
+    returns-then-not-weight_fits-3
+    weight_fits-requires-4
+    returns-then-not-weight_fits-4
+    weight_fits-requires-5
+    returns)

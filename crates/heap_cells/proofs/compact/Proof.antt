@@ -6,38 +6,38 @@ use Rattle.heap_cells.proofs.PackLaws.{packed_begin, packed_trans, pack_end}
 use Rattle.heap_cells.proofs.compact.Statement.{statement}
 use Rattle.heap_cells.proofs.compact.Tie as tie
 
-abbrev invariant_loop : tie.invariant_loop
+abbrev invariant_loop : tie.invariant-loop-k
 invariant_loop slots₀ n dir₀ cells₀ last k₀ p₀ slots dir cells k p = Packed n last k p.cells p.entries slots₀ dir₀ cells₀ slots dir cells
 
-abbrev decreases_loop : tie.decreases_loop
+abbrev decreases_loop : tie.decreases-loop-k
 decreases_loop slots₀ n dir₀ cells₀ last k₀ p₀ slots dir cells k p = last - k
 
-loop-holds : tie.Need-loop-init invariant_loop decreases_loop
-loop-holds c = packed_begin c.before.before.before.requires
+loop-k-init : tie.Need-loop-k-init invariant_loop decreases_loop
+loop-k-init c = packed_begin c.requires
 
-pack-entry-requires : tie.Need-pack-entry-requires invariant_loop decreases_loop
-pack-entry-requires c κs = (c.before.before.before.before.loop.invariant.still, c.before.before.before.loop-test.true)
+pack_entry-p-requires : tie.Need-pack_entry-p-requires invariant_loop decreases_loop
+pack_entry-p-requires c κs = (c.loop-k.invariant.still, c.loop-k-test.true)
 
-add-k : tie.Need-overflow-add-k invariant_loop decreases_loop
-add-k c = omega (arith, c.before.before.before.before.before.before.before.before.before.before.loop-test.true, c.before.before.before.before.before.before.before.before.before.before.before.before.before.before.before.requires.dir_max)
+overflow_add-k : tie.Need-overflow_add-k invariant_loop decreases_loop
+overflow_add-k c = omega (arith, c.loop-k-test.true, c.requires.dir_max)
 
-loop-less : tie.Need-loop-smaller invariant_loop decreases_loop
-loop-less c = omega (arith, c.before.before.before.before.before.before.before.before.before.before.loop-test.true)
+loop-k-smaller : tie.Need-loop-k-smaller invariant_loop decreases_loop
+loop-k-smaller c = omega (arith, c.loop-k-test.true)
 
-loop-again : tie.Need-loop-preserved invariant_loop decreases_loop
-loop-again c = packed_trans (c.before.before.before.before.before.before.before.before.before.before.before.loop.invariant) (c.before.before.before.before.before.before.pack-entry.ensures)
+loop-k-preserved : tie.Need-loop-k-preserved invariant_loop decreases_loop
+loop-k-preserved c = packed_trans c.loop-k.invariant c.pack_entry-p.ensures
 
-same_length : tie.Need-same-length invariant_loop decreases_loop
-same_length c = c.before.loop.invariant.kept.slots_len
+shape_of-slots : tie.Need-shape_of-slots invariant_loop decreases_loop
+shape_of-slots c = c.loop-k.invariant.kept.slots_len
 
-same-length-2 : tie.Need-same-length-2 invariant_loop decreases_loop
-same-length-2 c = c.before.loop.invariant.kept.dir_len
+shape_of-dir : tie.Need-shape_of-dir invariant_loop decreases_loop
+shape_of-dir c = c.loop-k.invariant.kept.dir_len
 
-same-length-3 : tie.Need-same-length-3 invariant_loop decreases_loop
-same-length-3 c = c.before.loop.invariant.kept.cells_len
+shape_of-cells : tie.Need-shape_of-cells invariant_loop decreases_loop
+shape_of-cells c = c.loop-k.invariant.kept.cells_len
 
 returns : tie.Need-returns invariant_loop decreases_loop
-returns c = pack_end (c.before.loop.invariant) (c.loop-test.false)
+returns c = pack_end c.loop-k.invariant c.loop-k-test.false
 
 pub compact_spec : {M : Type 1} → statement M
 compact_spec =
@@ -45,12 +45,12 @@ compact_spec =
     (tie.spec
     invariant_loop
     decreases_loop
-    loop-holds
-    pack-entry-requires
-    add-k
-    loop-less
-    loop-again
-    same_length
-    same-length-2
-    same-length-3
+    loop-k-init
+    pack_entry-p-requires
+    overflow_add-k
+    loop-k-smaller
+    loop-k-preserved
+    shape_of-slots
+    shape_of-dir
+    shape_of-cells
     returns)

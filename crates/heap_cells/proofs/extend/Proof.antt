@@ -5,21 +5,27 @@ use borrow.Author.Rules.{rules}
 use Rattle.heap_cells.proofs.extend.Statement.{statement}
 use Rattle.heap_cells.proofs.extend.Tie as tie
 
-read-header-requires : tie.Need-read-header-requires
-read-header-requires c κs = search rules
+read_header-h-requires : tie.Need-read_header-h-requires
+read_header-h-requires c κs = search rules
 
-write-header-requires : tie.Need-write-header-requires
-write-header-requires c κs = search rules
+write_header-requires : tie.Need-write_header-requires
+write_header-requires c κs = search rules
 
-add-t15 : tie.Need-overflow-add-t15
-add-t15 c = omega (arith, extend_fits (c.before.before.before.before.before.before.before.before.before.before.requires.0) (c.before.before.before.before.before.before.before.before.before.before.requires.1) (c.before.before.before.before.before.before.before.before.before.before.requires.2) (c.before.before.before.before.before.before.before.before.before.before.requires.3) (c.before.before.before.before.before.read-header.ensures))
+overflow_add-result : tie.Need-overflow_add-result
+overflow_add-result c = omega (arith, extend_fits c.requires.0 c.requires.1 c.requires.2 c.requires.3 c.read_header-h.ensures)
 
-same_length : tie.Need-same-length
-same_length c = search rules
+shape_of-slots : tie.Need-shape_of-slots
+shape_of-slots c = search rules
 
 returns : tie.Need-returns
-returns c = grown_top (c.before.before.before.before.before.before.before.before.before.before.requires.0) (c.before.before.before.before.before.before.before.before.before.before.requires.1) (c.before.before.before.before.before.before.before.before.before.before.requires.2) (c.before.before.before.before.before.before.before.before.before.before.requires.3) (c.before.before.before.before.before.read-header.ensures) (c.before.before.before.write-header.ensures)
+returns c = grown_top c.requires.0 c.requires.1 c.requires.2 c.requires.3 c.read_header-h.ensures c.write_header.ensures
 
 pub extend_spec : {M : Type 1} → statement M
 extend_spec =
-    tie.close (tie.spec read-header-requires write-header-requires add-t15 same_length returns)
+    tie.close
+    (tie.spec
+    read_header-h-requires
+    write_header-requires
+    overflow_add-result
+    shape_of-slots
+    returns)

@@ -7,38 +7,38 @@ use Rattle.heap_cells.proofs.MoveLaws.{Put, put-none, put-more, put-filled}
 use Rattle.heap_cells.proofs.fill.Statement.{statement}
 use Rattle.heap_cells.proofs.fill.Tie as tie
 
-abbrev invariant_loop : tie.invariant_loop
+abbrev invariant_loop : tie.invariant-loop-j
 invariant_loop cells₀ from n j₀ cells j = (j ≤ n) × Put (λ r. 0) cells₀ cells from j
 
-abbrev decreases_loop : tie.decreases_loop
+abbrev decreases_loop : tie.decreases-loop-j
 decreases_loop cells₀ from n j₀ cells j = n - j
 
-loop-holds : tie.Need-loop-init invariant_loop decreases_loop
-loop-holds c = (omega arith, put-none _ _ _)
+loop-j-init : tie.Need-loop-j-init invariant_loop decreases_loop
+loop-j-init c = (omega arith, put-none _ _ _)
 
-add-cells : tie.Need-overflow-add-cells invariant_loop decreases_loop
-add-cells c = omega arith
+overflow_add-cells : tie.Need-overflow_add-cells invariant_loop decreases_loop
+overflow_add-cells c = omega arith
 
-mul-cells : tie.Need-overflow-mul-cells invariant_loop decreases_loop
-mul-cells c = omega arith
+offset_bounds-cells-from : tie.Need-offset_bounds-cells-from invariant_loop decreases_loop
+offset_bounds-cells-from c = omega arith
 
-slice-write-cells : tie.Need-slice-write-cells invariant_loop decreases_loop
-slice-write-cells c = omega (arith, c.before.loop.invariant.1.len)
+bounds-cells-from : tie.Need-bounds-cells-from invariant_loop decreases_loop
+bounds-cells-from c = omega (arith, c.loop-j.invariant.1.len)
 
-add-j : tie.Need-overflow-add-j invariant_loop decreases_loop
-add-j c = omega arith
+overflow_add-j : tie.Need-overflow_add-j invariant_loop decreases_loop
+overflow_add-j c = omega arith
 
-loop-less : tie.Need-loop-smaller invariant_loop decreases_loop
-loop-less c = omega arith
+loop-j-smaller : tie.Need-loop-j-smaller invariant_loop decreases_loop
+loop-j-smaller c = omega arith
 
-loop-again : tie.Need-loop-preserved invariant_loop decreases_loop
-loop-again c = (omega arith, put-more 0 c.before.loop.invariant.1 (omega arith) refl)
+loop-j-preserved : tie.Need-loop-j-preserved invariant_loop decreases_loop
+loop-j-preserved c = (omega arith, put-more 0 c.loop-j.invariant.1 (omega arith) refl)
 
-same_length : tie.Need-same-length invariant_loop decreases_loop
-same_length c = c.before.loop.invariant.1.len
+shape_of-cells : tie.Need-shape_of-cells invariant_loop decreases_loop
+shape_of-cells c = c.loop-j.invariant.1.len
 
 returns : tie.Need-returns invariant_loop decreases_loop
-returns c = put-filled (rw (le_antisymm c.before.loop.invariant.0 c.loop-test.false) at c.before.loop.invariant.1)
+returns c = put-filled (rw (le_antisymm c.loop-j.invariant.0 c.loop-j-test.false) at c.loop-j.invariant.1)
 
 pub fill_spec : {M : Type 1} → statement M
 fill_spec =
@@ -46,12 +46,12 @@ fill_spec =
     (tie.spec
     invariant_loop
     decreases_loop
-    loop-holds
-    add-cells
-    mul-cells
-    slice-write-cells
-    add-j
-    loop-less
-    loop-again
-    same_length
+    loop-j-init
+    overflow_add-cells
+    offset_bounds-cells-from
+    bounds-cells-from
+    overflow_add-j
+    loop-j-smaller
+    loop-j-preserved
+    shape_of-cells
     returns)

@@ -5,83 +5,83 @@ use borrow.Author.Rules.{rules}
 use Rattle.heap_cells.proofs.grow.Statement.{statement}
 use Rattle.heap_cells.proofs.grow.Tie as tie
 
-read-header-requires : tie.Need-read-header-requires
-read-header-requires c κs = search rules
+read_header-h-requires : tie.Need-read_header-h-requires
+read_header-h-requires c κs = search rules
 
-add-if2 : tie.Need-overflow-add-if2
-add-if2 c = let b = grow_fits (c.before.before.before.before.before.before.before.before.requires.0) (c.before.before.before.read-header.ensures) (c.before.before.before.before.before.before.before.before.requires.1) in omega (arith, b.region, b.size-max, b.top_max)
+overflow_add-h : tie.Need-overflow_add-h
+overflow_add-h c = let b = grow_fits c.requires.0 c.read_header-h.ensures c.requires.1 in omega (arith, b.region, b.size-max, b.top_max)
 
-add-if3 : tie.Need-overflow-add-if3
-add-if3 c = let b = grow_fits (c.before.before.before.before.before.before.before.before.before.before.before.requires.0) (c.before.before.before.before.before.before.read-header.ensures) (c.before.before.before.before.before.before.before.before.before.before.before.requires.1) in omega (arith, b.region, b.size-max, b.top_max)
+overflow_add-h-then-h-t : tie.Need-overflow_add-h-then-h-t
+overflow_add-h-then-h-t c = let b = grow_fits c.requires.0 c.read_header-h.ensures c.requires.1 in omega (arith, b.region, b.size-max, b.top_max)
 
 extend-requires : tie.Need-extend-requires
-extend-requires c κs = extend_asks (c.before.before.before.before.before.before.before.before.before.before.before.before.before.before.before.requires.0) (c.before.before.before.before.before.before.before.before.before.before.read-header.ensures) (c.before.before.before.before.before.before.before.before.if1.true) (c.before.before.before.before.before.if2.true) (c.before.before.before.if3.true)
+extend-requires c κs = extend_asks c.requires.0 c.read_header-h.ensures c.if-h-ne0.true c.if-h-t.true c.if-h-size.true
 
-same_length : tie.Need-same-length
-same_length c = search rules
+shape_of-slots-then-h-size : tie.Need-shape_of-slots-then-h-size
+shape_of-slots-then-h-size c = search rules
 
-same-length-2 : tie.Need-same-length-2
-same-length-2 c = search rules
+shape_of-dir-then-h-size : tie.Need-shape_of-dir-then-h-size
+shape_of-dir-then-h-size c = search rules
 
-same-length-3 : tie.Need-same-length-3
-same-length-3 c = search rules
+shape_of-cells-then-h-size : tie.Need-shape_of-cells-then-h-size
+shape_of-cells-then-h-size c = search rules
+
+returns-then-h-size : tie.Need-returns-then-h-size
+returns-then-h-size c = search rules
+
+overflow_add-t : tie.Need-overflow_add-t
+overflow_add-t c = let b = grow_fits c.requires.0 c.read_header-h.ensures c.requires.1 in omega (arith, b.region, b.size-max, b.top_max)
+
+relocate-requires : tie.Need-relocate-requires
+relocate-requires c κs = (c.requires.0, c.if-t-size.true, omega (arith, c.if-t-limit.true, c.requires.3), omega (arith, c.if-t-limit.true, c.requires.4))
+
+shape_of-slots-then-t-limit : tie.Need-shape_of-slots-then-t-limit
+shape_of-slots-then-t-limit c = search rules
+
+shape_of-dir-then-t-limit : tie.Need-shape_of-dir-then-t-limit
+shape_of-dir-then-t-limit c = search rules
+
+shape_of-cells-then-t-limit : tie.Need-shape_of-cells-then-t-limit
+shape_of-cells-then-t-limit c = search rules
+
+returns-then-t-limit : tie.Need-returns-then-t-limit
+returns-then-t-limit c = search rules
+
+repack-requires : tie.Need-repack-requires
+repack-requires c κs = (c.requires.0, c.requires.1, omega (arith, c.requires.2, c.requires.3))
+
+shape_of-slots : tie.Need-shape_of-slots
+shape_of-slots c = search rules
+
+shape_of-dir : tie.Need-shape_of-dir
+shape_of-dir c = search rules
+
+shape_of-cells : tie.Need-shape_of-cells
+shape_of-cells c = search rules
 
 returns : tie.Need-returns
 returns c = search rules
-
-add-if4 : tie.Need-overflow-add-if4
-add-if4 c = let b = grow_fits (c.before.before.before.before.before.before.before.before.requires.0) (c.before.before.before.read-header.ensures) (c.before.before.before.before.before.before.before.before.requires.1) in omega (arith, b.region, b.size-max, b.top_max)
-
-relocate-requires : tie.Need-relocate-requires
-relocate-requires c κs = (c.before.before.before.before.before.before.before.before.before.before.before.before.before.before.requires.0, c.before.before.before.before.before.if4.true, omega (arith, c.before.before.before.if5.true, c.before.before.before.before.before.before.before.before.before.before.before.before.before.before.requires.3), omega (arith, c.before.before.before.if5.true, c.before.before.before.before.before.before.before.before.before.before.before.before.before.before.requires.4))
-
-same-length-4 : tie.Need-same-length-4
-same-length-4 c = search rules
-
-same-length-5 : tie.Need-same-length-5
-same-length-5 c = search rules
-
-same-length-6 : tie.Need-same-length-6
-same-length-6 c = search rules
-
-returns-2 : tie.Need-returns-2
-returns-2 c = search rules
-
-repack-requires : tie.Need-repack-requires
-repack-requires c κs = (c.before.before.before.before.before.before.before.before.before.before.before.before.requires.0, c.before.before.before.before.before.before.before.before.before.before.before.before.requires.1, omega (arith, c.before.before.before.before.before.before.before.before.before.before.before.before.requires.2, c.before.before.before.before.before.before.before.before.before.before.before.before.requires.3))
-
-same-length-7 : tie.Need-same-length-7
-same-length-7 c = search rules
-
-same-length-8 : tie.Need-same-length-8
-same-length-8 c = search rules
-
-same-length-9 : tie.Need-same-length-9
-same-length-9 c = search rules
-
-returns-3 : tie.Need-returns-3
-returns-3 c = search rules
 
 pub grow_spec : {M : Type 1} → statement M
 grow_spec =
     tie.close
     (tie.spec
-    read-header-requires
-    add-if2
-    add-if3
+    read_header-h-requires
+    overflow_add-h
+    overflow_add-h-then-h-t
     extend-requires
-    same_length
-    same-length-2
-    same-length-3
-    returns
-    add-if4
+    shape_of-slots-then-h-size
+    shape_of-dir-then-h-size
+    shape_of-cells-then-h-size
+    returns-then-h-size
+    overflow_add-t
     relocate-requires
-    same-length-4
-    same-length-5
-    same-length-6
-    returns-2
+    shape_of-slots-then-t-limit
+    shape_of-dir-then-t-limit
+    shape_of-cells-then-t-limit
+    returns-then-t-limit
     repack-requires
-    same-length-7
-    same-length-8
-    same-length-9
-    returns-3)
+    shape_of-slots
+    shape_of-dir
+    shape_of-cells
+    returns)

@@ -4,17 +4,23 @@ use borrow.Author.Rules.{rules}
 use Rattle.heap_cells.proofs.lift.Statement.{statement}
 use Rattle.heap_cells.proofs.lift.Tie as tie
 
+returns-then-n-eq0 : tie.Need-returns-then-n-eq0
+returns-then-n-eq0 c = moved_none _ _ _ _ c.if-n-eq0.true
+
+move_up-requires : tie.Need-move_up-requires
+move_up-requires c κs = (c.requires.0 c.if-n-eq0.false, c.requires.1, c.requires.2)
+
+shape_of-cells : tie.Need-shape_of-cells
+shape_of-cells c = search rules
+
 returns : tie.Need-returns
-returns c = moved_none _ _ _ _ (c.if1.true)
-
-move-up-requires : tie.Need-move-up-requires
-move-up-requires c κs = (c.before.before.before.requires.0 (c.before.if1.false), c.before.before.before.requires.1, c.before.before.before.requires.2)
-
-same_length : tie.Need-same-length
-same_length c = search rules
-
-returns-2 : tie.Need-returns-2
-returns-2 c = search rules
+returns c = search rules
 
 pub lift_spec : {M : Type 1} → statement M
-lift_spec = tie.close (tie.spec returns move-up-requires same_length returns-2)
+lift_spec =
+    tie.close
+    (tie.spec
+    returns-then-n-eq0
+    move_up-requires
+    shape_of-cells
+    returns)

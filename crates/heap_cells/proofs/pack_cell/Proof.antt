@@ -4,159 +4,159 @@ use borrow.Author.Rules.{rules}
 use Rattle.heap_cells.proofs.pack_cell.Statement.{statement}
 use Rattle.heap_cells.proofs.pack_cell.Tie as tie
 
-shared-slice-read-wide : tie.Need-shared-slice-read-wide
-shared-slice-read-wide c = search rules
+bounds-bytes-at : tie.Need-bounds-bytes-at
+bounds-bytes-at c = search rules
 
 wide-requires : tie.Need-wide-requires
 wide-requires c κs = search rules
 
-add_wide : tie.Need-overflow-add-wide
-add_wide c = search rules
+overflow_add-at : tie.Need-overflow_add-at
+overflow_add-at c = search rules
 
-shared-slice-read-wide-2 : tie.Need-shared-slice-read-wide-2
-shared-slice-read-wide-2 c = search rules
+bounds-bytes-at-2 : tie.Need-bounds-bytes-at-2
+bounds-bytes-at-2 c = search rules
 
 wide-requires-2 : tie.Need-wide-requires-2
 wide-requires-2 c κs = search rules
 
-mul_low : tie.Need-overflow-mul-low
-mul_low c = search rules
+overflow_mul-low : tie.Need-overflow_mul-low
+overflow_mul-low c = search rules
 
-add_low : tie.Need-overflow-add-low
-add_low c = search rules
+overflow_add-low : tie.Need-overflow_add-low
+overflow_add-low c = search rules
 
-add-wide-2 : tie.Need-overflow-add-wide-2
-add-wide-2 c = search rules
+overflow_add-at-2 : tie.Need-overflow_add-at-2
+overflow_add-at-2 c = search rules
 
-shared-slice-read-wide-3 : tie.Need-shared-slice-read-wide-3
-shared-slice-read-wide-3 c = search rules
+bounds-bytes-at-3 : tie.Need-bounds-bytes-at-3
+bounds-bytes-at-3 c = search rules
 
 wide-requires-3 : tie.Need-wide-requires-3
 wide-requires-3 c κs = search rules
 
-mul-low-2 : tie.Need-overflow-mul-low-2
-mul-low-2 c = search rules
+overflow_mul-low-2 : tie.Need-overflow_mul-low-2
+overflow_mul-low-2 c = search rules
 
-add-low-2 : tie.Need-overflow-add-low-2
-add-low-2 c = search rules
+overflow_add-low-2 : tie.Need-overflow_add-low-2
+overflow_add-low-2 c = search rules
 
-add-wide-3 : tie.Need-overflow-add-wide-3
-add-wide-3 c = search rules
+overflow_add-at-3 : tie.Need-overflow_add-at-3
+overflow_add-at-3 c = search rules
 
-shared-slice-read-wide-4 : tie.Need-shared-slice-read-wide-4
-shared-slice-read-wide-4 c = search rules
+bounds-bytes-at-4 : tie.Need-bounds-bytes-at-4
+bounds-bytes-at-4 c = search rules
 
 wide-requires-4 : tie.Need-wide-requires-4
 wide-requires-4 c κs = search rules
 
-mul-low-3 : tie.Need-overflow-mul-low-3
-mul-low-3 c = search rules
+overflow_mul-low-3 : tie.Need-overflow_mul-low-3
+overflow_mul-low-3 c = search rules
 
-add-low-3 : tie.Need-overflow-add-low-3
-add-low-3 c = search rules
+overflow_add-low-3 : tie.Need-overflow_add-low-3
+overflow_add-low-3 c = search rules
 
-add-wide-4 : tie.Need-overflow-add-wide-4
-add-wide-4 c = search rules
+overflow_add-at-4 : tie.Need-overflow_add-at-4
+overflow_add-at-4 c = search rules
 
-shared-slice-read-wide-5 : tie.Need-shared-slice-read-wide-5
-shared-slice-read-wide-5 c = search rules
+bounds-bytes-at-5 : tie.Need-bounds-bytes-at-5
+bounds-bytes-at-5 c = search rules
 
 wide-requires-5 : tie.Need-wide-requires-5
 wide-requires-5 c κs = search rules
 
-add-wide-5 : tie.Need-overflow-add-wide-5
-add-wide-5 c = search rules
+overflow_add-at-5 : tie.Need-overflow_add-at-5
+overflow_add-at-5 c = search rules
 
-shared-slice-read-wide-6 : tie.Need-shared-slice-read-wide-6
-shared-slice-read-wide-6 c = search rules
+bounds-bytes-at-6 : tie.Need-bounds-bytes-at-6
+bounds-bytes-at-6 c = search rules
 
 wide-requires-6 : tie.Need-wide-requires-6
 wide-requires-6 c κs = search rules
 
-mul-high : tie.Need-overflow-mul-high
-mul-high c = search rules
+overflow_mul-high : tie.Need-overflow_mul-high
+overflow_mul-high c = search rules
 
-add-high : tie.Need-overflow-add-high
-add-high c = search rules
+overflow_add-high : tie.Need-overflow_add-high
+overflow_add-high c = search rules
 
-add-wide-6 : tie.Need-overflow-add-wide-6
-add-wide-6 c = search rules
+overflow_add-at-6 : tie.Need-overflow_add-at-6
+overflow_add-at-6 c = search rules
 
-shared-slice-read-wide-7 : tie.Need-shared-slice-read-wide-7
-shared-slice-read-wide-7 c = search rules
+bounds-bytes-at-7 : tie.Need-bounds-bytes-at-7
+bounds-bytes-at-7 c = search rules
 
 wide-requires-7 : tie.Need-wide-requires-7
 wide-requires-7 c κs = search rules
 
-mul-high-2 : tie.Need-overflow-mul-high-2
-mul-high-2 c = search rules
+overflow_mul-high-2 : tie.Need-overflow_mul-high-2
+overflow_mul-high-2 c = search rules
 
-add-high-2 : tie.Need-overflow-add-high-2
-add-high-2 c = search rules
+overflow_add-high-2 : tie.Need-overflow_add-high-2
+overflow_add-high-2 c = search rules
 
-add-wide-7 : tie.Need-overflow-add-wide-7
-add-wide-7 c = search rules
+overflow_add-at-7 : tie.Need-overflow_add-at-7
+overflow_add-at-7 c = search rules
 
-shared-slice-read-wide-8 : tie.Need-shared-slice-read-wide-8
-shared-slice-read-wide-8 c = search rules
+bounds-bytes-at-8 : tie.Need-bounds-bytes-at-8
+bounds-bytes-at-8 c = search rules
 
 wide-requires-8 : tie.Need-wide-requires-8
 wide-requires-8 c κs = search rules
 
-mul-high-3 : tie.Need-overflow-mul-high-3
-mul-high-3 c = search rules
+overflow_mul-high-3 : tie.Need-overflow_mul-high-3
+overflow_mul-high-3 c = search rules
 
-add-high-3 : tie.Need-overflow-add-high-3
-add-high-3 c = search rules
+overflow_add-high-3 : tie.Need-overflow_add-high-3
+overflow_add-high-3 c = search rules
 
-mul-result : tie.Need-overflow-mul-result
-mul-result c = search rules
+overflow_mul-result : tie.Need-overflow_mul-result
+overflow_mul-result c = search rules
 
-add-result : tie.Need-overflow-add-result
-add-result c = search rules
+overflow_add-result : tie.Need-overflow_add-result
+overflow_add-result c = search rules
 
 returns : tie.Need-returns
-returns c = packs_eight _ _ _ _ _ _ _ _ _ _ c.before.before.before.before.before.before.before.before.before.before.before.before.before.before.wide.ensures c.before.before.before.before.before.before.before.before.before.before.before.before.wide2.ensures c.before.before.before.before.before.before.before.before.before.before.wide3.ensures c.before.before.before.before.before.before.before.before.wide4.ensures c.before.before.before.before.before.before.wide5.ensures c.before.before.before.before.wide6.ensures c.before.before.wide7.ensures c.wide8.ensures
+returns c = packs_eight _ _ _ _ _ _ _ _ _ _ c.wide.ensures c.wide-2.ensures c.wide-3.ensures c.wide-4.ensures c.wide-5.ensures c.wide-6.ensures c.wide-7.ensures c.wide-8.ensures
 
 pub pack_cell_spec : {M : Type 1} → statement M
 pack_cell_spec =
     tie.close
     (tie.spec
-    shared-slice-read-wide
+    bounds-bytes-at
     wide-requires
-    add_wide
-    shared-slice-read-wide-2
+    overflow_add-at
+    bounds-bytes-at-2
     wide-requires-2
-    mul_low
-    add_low
-    add-wide-2
-    shared-slice-read-wide-3
+    overflow_mul-low
+    overflow_add-low
+    overflow_add-at-2
+    bounds-bytes-at-3
     wide-requires-3
-    mul-low-2
-    add-low-2
-    add-wide-3
-    shared-slice-read-wide-4
+    overflow_mul-low-2
+    overflow_add-low-2
+    overflow_add-at-3
+    bounds-bytes-at-4
     wide-requires-4
-    mul-low-3
-    add-low-3
-    add-wide-4
-    shared-slice-read-wide-5
+    overflow_mul-low-3
+    overflow_add-low-3
+    overflow_add-at-4
+    bounds-bytes-at-5
     wide-requires-5
-    add-wide-5
-    shared-slice-read-wide-6
+    overflow_add-at-5
+    bounds-bytes-at-6
     wide-requires-6
-    mul-high
-    add-high
-    add-wide-6
-    shared-slice-read-wide-7
+    overflow_mul-high
+    overflow_add-high
+    overflow_add-at-6
+    bounds-bytes-at-7
     wide-requires-7
-    mul-high-2
-    add-high-2
-    add-wide-7
-    shared-slice-read-wide-8
+    overflow_mul-high-2
+    overflow_add-high-2
+    overflow_add-at-7
+    bounds-bytes-at-8
     wide-requires-8
-    mul-high-3
-    add-high-3
-    mul-result
-    add-result
+    overflow_mul-high-3
+    overflow_add-high-3
+    overflow_mul-result
+    overflow_add-result
     returns)

@@ -6,79 +6,79 @@ use borrow.Author.Rules.{rules}
 use Rattle.heap_cells.proofs.pack_entry.Statement.{statement}
 use Rattle.heap_cells.proofs.pack_entry.Tie as tie
 
-mul-o : tie.Need-overflow-mul-o
-mul-o c = search rules
+offset_bounds-dir-at : tie.Need-offset_bounds-dir-at
+offset_bounds-dir-at c = search rules
 
-slice-read-o : tie.Need-slice-read-o
-slice-read-o c = search rules
+bounds-dir-at : tie.Need-bounds-dir-at
+bounds-dir-at c = search rules
 
-returns : tie.Need-returns
-returns c = skip_outside (c.before.before.before.before.before.requires.0) (c.before.before.before.before.before.requires.1) (c.if1.true)
+returns-then-n-o : tie.Need-returns-then-n-o
+returns-then-n-o c = skip_outside c.requires.0 c.requires.1 c.if-n-o.true
 
-read-header-requires : tie.Need-read-header-requires
-read-header-requires c κs = search rules
+read_header-h-requires : tie.Need-read_header-h-requires
+read_header-h-requires c κs = search rules
 
-same_length : tie.Need-same-length
-same_length c = search rules
+shape_of-slots-then-h-eq0 : tie.Need-shape_of-slots-then-h-eq0
+shape_of-slots-then-h-eq0 c = search rules
 
-returns-2 : tie.Need-returns-2
-returns-2 c = skip_empty (c.before.before.before.before.before.before.before.before.before.requires.0) (c.before.before.before.before.before.before.before.before.before.requires.1) (c.before.before.read-header.ensures) (c.if2.true)
+returns-then-h-eq0 : tie.Need-returns-then-h-eq0
+returns-then-h-eq0 c = skip_empty c.requires.0 c.requires.1 c.read_header-h.ensures c.if-h-eq0.true
 
-same-length-2 : tie.Need-same-length-2
-same-length-2 c = search rules
+shape_of-slots-then-h-k : tie.Need-shape_of-slots-then-h-k
+shape_of-slots-then-h-k c = search rules
 
-returns-3 : tie.Need-returns-3
-returns-3 c = skip_else (c.before.before.before.before.before.before.before.before.before.before.before.requires.0) (c.before.before.before.before.before.before.before.before.before.before.before.requires.1) (c.before.before.before.before.read-header.ensures) (c.if3.true)
+returns-then-h-k : tie.Need-returns-then-h-k
+returns-then-h-k c = skip_else c.requires.0 c.requires.1 c.read_header-h.ensures c.if-h-k.true
 
 slide-requires : tie.Need-slide-requires
-slide-requires c κs = (above (c.before.before.before.before.before.before.before.before.before.before.before.before.requires.0) (c.before.before.before.before.before.before.before.before.before.before.before.before.requires.1) (c.before.before.before.before.before.before.before.if1.false) (c.before.before.before.before.before.read-header.ensures) (c.before.before.before.if2.false) (c.before.if3.false), bounds (c.before.before.before.before.before.before.before.before.before.before.before.before.requires.0) (c.before.before.before.before.before.before.before.before.before.before.before.before.requires.1) (c.before.before.before.before.before.before.before.if1.false) (c.before.before.before.before.before.read-header.ensures) (c.before.before.before.if2.false) (c.before.if3.false), c.before.before.before.before.before.before.before.before.before.before.before.before.requires.0.cells_max)
+slide-requires c κs = (above c.requires.0 c.requires.1 c.if-n-o.false c.read_header-h.ensures c.if-h-eq0.false c.if-h-k.false, bounds c.requires.0 c.requires.1 c.if-n-o.false c.read_header-h.ensures c.if-h-eq0.false c.if-h-k.false, c.requires.0.cells_max)
 
-write-header-requires : tie.Need-write-header-requires
-write-header-requires c κs = search rules
+write_header-requires : tie.Need-write_header-requires
+write_header-requires c κs = search rules
 
-mul-dir : tie.Need-overflow-mul-dir
-mul-dir c = search rules
+offset_bounds-dir-m : tie.Need-offset_bounds-dir-m
+offset_bounds-dir-m c = search rules
 
-slice-write-dir : tie.Need-slice-write-dir
-slice-write-dir c = search rules
+bounds-dir-m : tie.Need-bounds-dir-m
+bounds-dir-m c = search rules
 
-add-t15 : tie.Need-overflow-add-t15
-add-t15 c = omega (arith, c.before.before.before.before.before.before.before.before.before.before.before.before.before.before.before.before.before.before.before.before.before.requires.0.to_fits, c.before.before.before.before.before.before.before.before.before.before.before.before.before.before.before.before.before.before.before.before.before.requires.0.cells_max, above (c.before.before.before.before.before.before.before.before.before.before.before.before.before.before.before.before.before.before.before.before.before.requires.0) (c.before.before.before.before.before.before.before.before.before.before.before.before.before.before.before.before.before.before.before.before.before.requires.1) (c.before.before.before.before.before.before.before.before.before.before.before.before.before.before.before.before.if1.false) (c.before.before.before.before.before.before.before.before.before.before.before.before.before.before.read-header.ensures) (c.before.before.before.before.before.before.before.before.before.before.before.before.if2.false) (c.before.before.before.before.before.before.before.before.before.before.if3.false), bounds (c.before.before.before.before.before.before.before.before.before.before.before.before.before.before.before.before.before.before.before.before.before.requires.0) (c.before.before.before.before.before.before.before.before.before.before.before.before.before.before.before.before.before.before.before.before.before.requires.1) (c.before.before.before.before.before.before.before.before.before.before.before.before.before.before.before.before.if1.false) (c.before.before.before.before.before.before.before.before.before.before.before.before.before.before.read-header.ensures) (c.before.before.before.before.before.before.before.before.before.before.before.before.if2.false) (c.before.before.before.before.before.before.before.before.before.before.if3.false))
+overflow_add-result : tie.Need-overflow_add-result
+overflow_add-result c = omega (arith, c.requires.0.to_fits, c.requires.0.cells_max, above c.requires.0 c.requires.1 c.if-n-o.false c.read_header-h.ensures c.if-h-eq0.false c.if-h-k.false, bounds c.requires.0 c.requires.1 c.if-n-o.false c.read_header-h.ensures c.if-h-eq0.false c.if-h-k.false)
 
-add-t27 : tie.Need-overflow-add-t27
-add-t27 c = omega (arith, c.before.before.before.before.before.before.before.before.before.before.before.before.before.before.before.before.before.before.before.before.before.before.requires.0.m_k, c.before.before.before.before.before.before.before.before.before.before.before.before.before.before.before.before.before.before.before.before.before.before.requires.0.dir_max, c.before.before.before.before.before.before.before.before.before.before.before.before.before.before.before.before.before.before.before.before.before.before.requires.1)
+overflow_add-result-2 : tie.Need-overflow_add-result-2
+overflow_add-result-2 c = omega (arith, c.requires.0.m_k, c.requires.0.dir_max, c.requires.1)
 
-same-length-3 : tie.Need-same-length-3
-same-length-3 c = search rules
+shape_of-slots : tie.Need-shape_of-slots
+shape_of-slots c = search rules
 
-same-length-4 : tie.Need-same-length-4
-same-length-4 c = search rules
+shape_of-dir : tie.Need-shape_of-dir
+shape_of-dir c = search rules
 
-same-length-5 : tie.Need-same-length-5
-same-length-5 c = search rules
+shape_of-cells : tie.Need-shape_of-cells
+shape_of-cells c = search rules
 
-returns-4 : tie.Need-returns-4
-returns-4 c = pack_step (c.before.before.before.before.before.before.before.before.before.before.before.before.before.before.before.before.before.before.before.before.before.before.requires.0) (c.before.before.before.before.before.before.before.before.before.before.before.before.before.before.before.before.before.before.before.before.before.before.requires.1) (c.before.before.before.before.before.before.before.before.before.before.before.before.before.before.before.before.before.if1.false) (c.before.before.before.before.before.before.before.before.before.before.before.before.before.before.before.read-header.ensures) (c.before.before.before.before.before.before.before.before.before.before.before.before.before.if2.false) (c.before.before.before.before.before.before.before.before.before.before.before.if3.false) (c.before.before.before.before.before.before.before.before.before.slide.ensures) (c.before.before.before.before.before.write-header.ensures) refl
+returns : tie.Need-returns
+returns c = pack_step c.requires.0 c.requires.1 c.if-n-o.false c.read_header-h.ensures c.if-h-eq0.false c.if-h-k.false c.slide.ensures c.write_header.ensures refl
 
 pub pack_entry_spec : {M : Type 1} → statement M
 pack_entry_spec =
     tie.close
     (tie.spec
-    mul-o
-    slice-read-o
-    returns
-    read-header-requires
-    same_length
-    returns-2
-    same-length-2
-    returns-3
+    offset_bounds-dir-at
+    bounds-dir-at
+    returns-then-n-o
+    read_header-h-requires
+    shape_of-slots-then-h-eq0
+    returns-then-h-eq0
+    shape_of-slots-then-h-k
+    returns-then-h-k
     slide-requires
-    write-header-requires
-    mul-dir
-    slice-write-dir
-    add-t15
-    add-t27
-    same-length-3
-    same-length-4
-    same-length-5
-    returns-4)
+    write_header-requires
+    offset_bounds-dir-m
+    bounds-dir-m
+    overflow_add-result
+    overflow_add-result-2
+    shape_of-slots
+    shape_of-dir
+    shape_of-cells
+    returns)

@@ -9,38 +9,38 @@ use Rattle.heap_cells.proofs.StringLaws.{packs_none, packs_more, packs_small, pa
 use Rattle.heap_cells.proofs.pack_rest.Statement.{statement}
 use Rattle.heap_cells.proofs.pack_rest.Tie as tie
 
-abbrev invariant_loop : tie.invariant_loop
+abbrev invariant_loop : tie.invariant-loop-j
 invariant_loop bytes at w₀ j₀ w j = (at ≤ j) × (j ≤ length bytes) × Packs bytes j w × (w < 256 ^ (length bytes - j))
 
-abbrev decreases_loop : tie.decreases_loop
+abbrev decreases_loop : tie.decreases-loop-j
 decreases_loop bytes at w₀ j₀ w j = j - at
 
-loop-holds : tie.Need-loop-init invariant_loop decreases_loop
-loop-holds c = (omega arith, omega arith, packs_none _ _ _ (omega arith), packs_zero _)
+loop-j-init : tie.Need-loop-j-init invariant_loop decreases_loop
+loop-j-init c = (omega arith, omega arith, packs_none _ _ _ (omega arith), packs_zero _)
 
-sub-j : tie.Need-overflow-sub-j invariant_loop decreases_loop
-sub-j c = omega arith
+overflow_sub-j : tie.Need-overflow_sub-j invariant_loop decreases_loop
+overflow_sub-j c = omega arith
 
-mul-w : tie.Need-overflow-mul-w invariant_loop decreases_loop
-mul-w c = omega (arith, packs_small _ _ (c.before.loop.invariant.3) (omega arith))
+overflow_mul-w : tie.Need-overflow_mul-w invariant_loop decreases_loop
+overflow_mul-w c = omega (arith, packs_small _ _ c.loop-j.invariant.3 (omega arith))
 
-shared-slice-read-wide : tie.Need-shared-slice-read-wide invariant_loop decreases_loop
-shared-slice-read-wide c = omega arith
+bounds-bytes-j : tie.Need-bounds-bytes-j invariant_loop decreases_loop
+bounds-bytes-j c = omega arith
 
 wide-requires : tie.Need-wide-requires invariant_loop decreases_loop
 wide-requires c κs = search rules
 
-add-w : tie.Need-overflow-add-w invariant_loop decreases_loop
-add-w c = omega (arith, packs_small _ _ (c.before.before.before.loop.invariant.3) (omega arith))
+overflow_add-w : tie.Need-overflow_add-w invariant_loop decreases_loop
+overflow_add-w c = omega (arith, packs_small _ _ c.loop-j.invariant.3 (omega arith))
 
-loop-less : tie.Need-loop-smaller invariant_loop decreases_loop
-loop-less c = omega arith
+loop-j-smaller : tie.Need-loop-j-smaller invariant_loop decreases_loop
+loop-j-smaller c = omega arith
 
-loop-again : tie.Need-loop-preserved invariant_loop decreases_loop
-loop-again c = (omega arith, omega arith, packs_more _ (c.before.before.before.loop.invariant.2) (omega arith) (c.wide.ensures.0) (c.wide.ensures.1), packs_next _ _ _ _ (c.before.before.before.loop.invariant.3) (c.wide.ensures.1) (omega arith) (omega arith))
+loop-j-preserved : tie.Need-loop-j-preserved invariant_loop decreases_loop
+loop-j-preserved c = (omega arith, omega arith, packs_more _ c.loop-j.invariant.2 (omega arith) c.wide.ensures.0 c.wide.ensures.1, packs_next _ _ _ _ c.loop-j.invariant.3 c.wide.ensures.1 (omega arith) (omega arith))
 
 returns : tie.Need-returns invariant_loop decreases_loop
-returns c = rw (le_antisymm (c.loop-test.false) (c.before.loop.invariant.0)) at (c.before.loop.invariant.2)
+returns c = rw (le_antisymm c.loop-j-test.false c.loop-j.invariant.0) at c.loop-j.invariant.2
 
 pub pack_rest_spec : {M : Type 1} → statement M
 pack_rest_spec =
@@ -48,12 +48,12 @@ pack_rest_spec =
     (tie.spec
     invariant_loop
     decreases_loop
-    loop-holds
-    sub-j
-    mul-w
-    shared-slice-read-wide
+    loop-j-init
+    overflow_sub-j
+    overflow_mul-w
+    bounds-bytes-j
     wide-requires
-    add-w
-    loop-less
-    loop-again
+    overflow_add-w
+    loop-j-smaller
+    loop-j-preserved
     returns)

@@ -7,74 +7,74 @@ use Rattle.heap_cells.proofs.StringLaws.{ReadTo, read_none, read_more, read_next
 use Rattle.heap_cells.proofs.read_string.Statement.{statement}
 use Rattle.heap_cells.proofs.read_string.Tie as tie
 
-abbrev invariant_loop : tie.invariant_loop
+abbrev invariant_loop : tie.invariant-loop-q
 invariant_loop cells from n buffer₀ whole q₀ buffer q = (q ≤ whole) × ReadTo cells from buffer₀ buffer (q * 8)
 
-abbrev decreases_loop : tie.decreases_loop
+abbrev decreases_loop : tie.decreases-loop-q
 decreases_loop cells from n buffer₀ whole q₀ buffer q = whole - q
 
-loop-holds : tie.Need-loop-init invariant_loop decreases_loop
-loop-holds c = (omega arith, read_none _ _ _)
+loop-q-init : tie.Need-loop-q-init invariant_loop decreases_loop
+loop-q-init c = (omega arith, read_none _ _ _)
 
-add-unpack-cell : tie.Need-overflow-add-unpack-cell invariant_loop decreases_loop
-add-unpack-cell c = omega arith
+overflow_add-from : tie.Need-overflow_add-from invariant_loop decreases_loop
+overflow_add-from c = omega arith
 
-mul-unpack-cell : tie.Need-overflow-mul-unpack-cell invariant_loop decreases_loop
-mul-unpack-cell c = omega arith
+offset_bounds-cells-from : tie.Need-offset_bounds-cells-from invariant_loop decreases_loop
+offset_bounds-cells-from c = omega arith
 
-shared-slice-read-unpack-cell : tie.Need-shared-slice-read-unpack-cell invariant_loop decreases_loop
-shared-slice-read-unpack-cell c = omega arith
+bounds-cells-from : tie.Need-bounds-cells-from invariant_loop decreases_loop
+bounds-cells-from c = omega arith
 
-mul-unpack-cell-2 : tie.Need-overflow-mul-unpack-cell-2 invariant_loop decreases_loop
-mul-unpack-cell-2 c = omega arith
+overflow_mul-q : tie.Need-overflow_mul-q invariant_loop decreases_loop
+overflow_mul-q c = omega arith
 
-unpack-cell-requires : tie.Need-unpack-cell-requires invariant_loop decreases_loop
-unpack-cell-requires c κs = omega (arith, c.before.before.before.loop.invariant.1.len)
+unpack_cell-requires : tie.Need-unpack_cell-requires invariant_loop decreases_loop
+unpack_cell-requires c κs = omega (arith, c.loop-q.invariant.1.len)
 
-add-q : tie.Need-overflow-add-q invariant_loop decreases_loop
-add-q c = omega arith
+overflow_add-q : tie.Need-overflow_add-q invariant_loop decreases_loop
+overflow_add-q c = omega arith
 
-loop-less : tie.Need-loop-smaller invariant_loop decreases_loop
-loop-less c = omega arith
+loop-q-smaller : tie.Need-loop-q-smaller invariant_loop decreases_loop
+loop-q-smaller c = omega arith
 
-loop-again : tie.Need-loop-preserved invariant_loop decreases_loop
-loop-again c = (omega arith, read_next _ (c.before.before.before.before.before.before.loop.invariant.1) (c.before.before.unpack-cell.ensures) refl)
+loop-q-preserved : tie.Need-loop-q-preserved invariant_loop decreases_loop
+loop-q-preserved c = (omega arith, read_next _ c.loop-q.invariant.1 c.unpack_cell.ensures refl)
 
-mul-if1 : tie.Need-overflow-mul-if1 invariant_loop decreases_loop
-mul-if1 c = omega arith
+overflow_mul-whole : tie.Need-overflow_mul-whole invariant_loop decreases_loop
+overflow_mul-whole c = omega arith
 
-add-unpack-rest : tie.Need-overflow-add-unpack-rest invariant_loop decreases_loop
-add-unpack-rest c = omega arith
+overflow_add-from-then-whole-n : tie.Need-overflow_add-from-then-whole-n invariant_loop decreases_loop
+overflow_add-from-then-whole-n c = omega arith
 
-mul-unpack-rest : tie.Need-overflow-mul-unpack-rest invariant_loop decreases_loop
-mul-unpack-rest c = omega arith
+offset_bounds-cells-from-then-whole-n : tie.Need-offset_bounds-cells-from-then-whole-n invariant_loop decreases_loop
+offset_bounds-cells-from-then-whole-n c = omega arith
 
-shared-slice-read-unpack-rest : tie.Need-shared-slice-read-unpack-rest invariant_loop decreases_loop
-shared-slice-read-unpack-rest c = omega arith
+bounds-cells-from-then-whole-n : tie.Need-bounds-cells-from-then-whole-n invariant_loop decreases_loop
+bounds-cells-from-then-whole-n c = omega arith
 
-mul-unpack-rest-2 : tie.Need-overflow-mul-unpack-rest-2 invariant_loop decreases_loop
-mul-unpack-rest-2 c = omega arith
+overflow_mul-whole-then-whole-n : tie.Need-overflow_mul-whole-then-whole-n invariant_loop decreases_loop
+overflow_mul-whole-then-whole-n c = omega arith
 
-mul-unpack-rest-3 : tie.Need-overflow-mul-unpack-rest-3 invariant_loop decreases_loop
-mul-unpack-rest-3 c = omega arith
+overflow_mul-whole-then-whole-n-2 : tie.Need-overflow_mul-whole-then-whole-n-2 invariant_loop decreases_loop
+overflow_mul-whole-then-whole-n-2 c = omega arith
 
-sub-unpack-rest : tie.Need-overflow-sub-unpack-rest invariant_loop decreases_loop
-sub-unpack-rest c = omega arith
+overflow_sub-n : tie.Need-overflow_sub-n invariant_loop decreases_loop
+overflow_sub-n c = omega arith
 
-unpack-rest-requires : tie.Need-unpack-rest-requires invariant_loop decreases_loop
-unpack-rest-requires c κs = (omega arith, omega (arith, c.before.before.before.before.loop.invariant.1.len))
+unpack_rest-requires : tie.Need-unpack_rest-requires invariant_loop decreases_loop
+unpack_rest-requires c κs = (omega arith, omega (arith, c.loop-q.invariant.1.len))
 
-same_length : tie.Need-same-length invariant_loop decreases_loop
-same_length c = c.before.before.unpack-rest.ensures.len ∙ c.before.before.before.before.before.before.before.loop.invariant.1.len
+shape_of-buffer-then-whole-n : tie.Need-shape_of-buffer-then-whole-n invariant_loop decreases_loop
+shape_of-buffer-then-whole-n c = c.unpack_rest.ensures.len ∙ c.loop-q.invariant.1.len
 
-returns : tie.Need-returns invariant_loop decreases_loop
-returns c = read_end _ (read_more _ (rw (le_antisymm (c.before.before.before.before.before.before.before.loop.invariant.0) (c.before.before.before.before.before.before.loop-test.false)) at (c.before.before.before.before.before.before.before.loop.invariant.1)) (c.before.before.unpack-rest.ensures) (omega arith) refl) (omega arith) (c.before.before.before.before.before.before.before.before.before.before.requires.2)
+returns-then-whole-n : tie.Need-returns-then-whole-n invariant_loop decreases_loop
+returns-then-whole-n c = read_end _ (read_more _ (rw (le_antisymm c.loop-q.invariant.0 c.loop-q-test.false) at c.loop-q.invariant.1) c.unpack_rest.ensures (omega arith) refl) (omega arith) c.requires.2
 
-same-length-2 : tie.Need-same-length-2 invariant_loop decreases_loop
-same-length-2 c = c.before.before.loop.invariant.1.len
+shape_of-buffer-else-whole-n : tie.Need-shape_of-buffer-else-whole-n invariant_loop decreases_loop
+shape_of-buffer-else-whole-n c = c.loop-q.invariant.1.len
 
-returns-2 : tie.Need-returns-2 invariant_loop decreases_loop
-returns-2 c = read_end _ (c.before.before.loop.invariant.1) (omega arith) (c.before.before.before.before.before.requires.2)
+returns-else-whole-n : tie.Need-returns-else-whole-n invariant_loop decreases_loop
+returns-else-whole-n c = read_end _ c.loop-q.invariant.1 (omega arith) c.requires.2
 
 pub read_string_spec : {M : Type 1} → statement M
 read_string_spec =
@@ -82,24 +82,24 @@ read_string_spec =
     (tie.spec
     invariant_loop
     decreases_loop
-    loop-holds
-    add-unpack-cell
-    mul-unpack-cell
-    shared-slice-read-unpack-cell
-    mul-unpack-cell-2
-    unpack-cell-requires
-    add-q
-    loop-less
-    loop-again
-    mul-if1
-    add-unpack-rest
-    mul-unpack-rest
-    shared-slice-read-unpack-rest
-    mul-unpack-rest-2
-    mul-unpack-rest-3
-    sub-unpack-rest
-    unpack-rest-requires
-    same_length
-    returns
-    same-length-2
-    returns-2)
+    loop-q-init
+    overflow_add-from
+    offset_bounds-cells-from
+    bounds-cells-from
+    overflow_mul-q
+    unpack_cell-requires
+    overflow_add-q
+    loop-q-smaller
+    loop-q-preserved
+    overflow_mul-whole
+    overflow_add-from-then-whole-n
+    offset_bounds-cells-from-then-whole-n
+    bounds-cells-from-then-whole-n
+    overflow_mul-whole-then-whole-n
+    overflow_mul-whole-then-whole-n-2
+    overflow_sub-n
+    unpack_rest-requires
+    shape_of-buffer-then-whole-n
+    returns-then-whole-n
+    shape_of-buffer-else-whole-n
+    returns-else-whole-n)

@@ -5,51 +5,51 @@ use borrow.Author.Rules.{rules}
 use Rattle.heap_cells.proofs.relocate.Statement.{statement}
 use Rattle.heap_cells.proofs.relocate.Tie as tie
 
-read-header-requires : tie.Need-read-header-requires
-read-header-requires c κs = search rules
+read_header-h-requires : tie.Need-read_header-h-requires
+read_header-h-requires c κs = search rules
 
 lift-requires : tie.Need-lift-requires
-lift-requires c κs = lift_fits (c.before.before.before.before.before.before.requires.0) (c.before.before.before.before.before.before.requires.1) (c.before.read-header.ensures)
+lift-requires c κs = lift_fits c.requires.0 c.requires.1 c.read_header-h.ensures
 
-write-header-requires : tie.Need-write-header-requires
-write-header-requires c κs = search rules
+write_header-requires : tie.Need-write_header-requires
+write_header-requires c κs = search rules
 
-mul-dir : tie.Need-overflow-mul-dir
-mul-dir c = search rules
+offset_bounds-dir-m : tie.Need-offset_bounds-dir-m
+offset_bounds-dir-m c = search rules
 
-slice-write-dir : tie.Need-slice-write-dir
-slice-write-dir c = search rules
+bounds-dir-m : tie.Need-bounds-dir-m
+bounds-dir-m c = search rules
 
-add-t21 : tie.Need-overflow-add-t21
-add-t21 c = search rules
+overflow_add-result-2 : tie.Need-overflow_add-result-2
+overflow_add-result-2 c = search rules
 
-add-t23 : tie.Need-overflow-add-t23
-add-t23 c = search rules
+overflow_add-result : tie.Need-overflow_add-result
+overflow_add-result c = search rules
 
-same_length : tie.Need-same-length
-same_length c = search rules
+shape_of-slots : tie.Need-shape_of-slots
+shape_of-slots c = search rules
 
-same-length-2 : tie.Need-same-length-2
-same-length-2 c = search rules
+shape_of-dir : tie.Need-shape_of-dir
+shape_of-dir c = search rules
 
-same-length-3 : tie.Need-same-length-3
-same-length-3 c = search rules
+shape_of-cells : tie.Need-shape_of-cells
+shape_of-cells c = search rules
 
 returns : tie.Need-returns
-returns c = grown-moved (c.before.before.before.before.before.before.before.before.before.before.before.before.before.before.before.requires.0) (c.before.before.before.before.before.before.before.before.before.before.before.before.before.before.before.requires.1) (c.before.before.before.before.before.before.before.before.before.before.before.before.before.before.before.requires.2) (c.before.before.before.before.before.before.before.before.before.before.before.before.before.before.before.requires.3) (c.before.before.before.before.before.before.before.before.before.before.read-header.ensures) (c.before.before.before.before.before.before.before.before.lift.ensures) (c.before.before.before.before.write-header.ensures) refl
+returns c = grown-moved c.requires.0 c.requires.1 c.requires.2 c.requires.3 c.read_header-h.ensures c.lift.ensures c.write_header.ensures refl
 
 pub relocate_spec : {M : Type 1} → statement M
 relocate_spec =
     tie.close
     (tie.spec
-    read-header-requires
+    read_header-h-requires
     lift-requires
-    write-header-requires
-    mul-dir
-    slice-write-dir
-    add-t21
-    add-t23
-    same_length
-    same-length-2
-    same-length-3
+    write_header-requires
+    offset_bounds-dir-m
+    bounds-dir-m
+    overflow_add-result
+    overflow_add-result-2
+    shape_of-slots
+    shape_of-dir
+    shape_of-cells
     returns)

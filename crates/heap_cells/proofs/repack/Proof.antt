@@ -5,55 +5,55 @@ use borrow.Author.Rules.{rules}
 use Rattle.heap_cells.proofs.repack.Statement.{statement}
 use Rattle.heap_cells.proofs.repack.Tie as tie
 
-compact-requires : tie.Need-compact-requires
-compact-requires c κs = search rules
+compact-p-requires : tie.Need-compact-p-requires
+compact-p-requires c κs = search rules
 
-add-if1 : tie.Need-overflow-add-if1
-add-if1 c = omega (arith, regrow_fits (c.before.before.before.before.before.before.before.before.before.before.before.before.before.before.requires.0) (c.before.before.before.before.before.before.before.compact.ensures) (c.before.before.before.before.before.before.before.before.before.before.before.before.before.before.requires.1))
+overflow_add-p : tie.Need-overflow_add-p
+overflow_add-p c = omega (arith, regrow_fits c.requires.0 c.compact-p.ensures c.requires.1)
 
 relocate-requires : tie.Need-relocate-requires
-relocate-requires c κs = relocate_asks (c.before.before.before.before.before.before.before.before.before.before.before.before.before.before.before.before.before.before.requires.0) (c.before.before.before.before.before.before.before.before.before.before.before.compact.ensures) (c.before.before.before.before.before.before.before.before.before.before.before.before.before.before.before.before.before.before.requires.2) (c.before.before.before.if1.true)
+relocate-requires c κs = relocate_asks c.requires.0 c.compact-p.ensures c.requires.2 c.if-p-size.true
 
-same_length : tie.Need-same-length
-same_length c = search rules
+shape_of-slots-then-p-size : tie.Need-shape_of-slots-then-p-size
+shape_of-slots-then-p-size c = search rules
 
-same-length-2 : tie.Need-same-length-2
-same-length-2 c = search rules
+shape_of-dir-then-p-size : tie.Need-shape_of-dir-then-p-size
+shape_of-dir-then-p-size c = search rules
 
-same-length-3 : tie.Need-same-length-3
-same-length-3 c = search rules
+shape_of-cells-then-p-size : tie.Need-shape_of-cells-then-p-size
+shape_of-cells-then-p-size c = search rules
 
-returns : tie.Need-returns
-returns c = grown-after (c.before.before.before.before.before.before.before.before.before.before.before.before.before.before.before.before.before.before.before.before.before.before.before.before.before.requires.0) (c.before.before.before.before.before.before.before.before.before.before.before.before.before.before.before.before.before.before.compact.ensures) (c.before.before.before.before.before.before.relocate.ensures)
+returns-then-p-size : tie.Need-returns-then-p-size
+returns-then-p-size c = grown-after c.requires.0 c.compact-p.ensures c.relocate.ensures
 
 widen-requires : tie.Need-widen-requires
-widen-requires c κs = widen_asks (c.before.before.before.before.before.before.before.before.before.before.before.before.before.before.before.before.before.before.requires.0) (c.before.before.before.before.before.before.before.before.before.before.before.compact.ensures) (c.before.before.before.before.before.before.before.before.before.before.before.before.before.before.before.before.before.before.requires.1) (c.before.before.before.if1.false)
+widen-requires c κs = widen_asks c.requires.0 c.compact-p.ensures c.requires.1 c.if-p-size.false
 
-same-length-4 : tie.Need-same-length-4
-same-length-4 c = search rules
+shape_of-slots : tie.Need-shape_of-slots
+shape_of-slots c = search rules
 
-same-length-5 : tie.Need-same-length-5
-same-length-5 c = search rules
+shape_of-dir : tie.Need-shape_of-dir
+shape_of-dir c = search rules
 
-same-length-6 : tie.Need-same-length-6
-same-length-6 c = search rules
+shape_of-cells : tie.Need-shape_of-cells
+shape_of-cells c = search rules
 
-returns-2 : tie.Need-returns-2
-returns-2 c = grown-after (c.before.before.before.before.before.before.before.before.before.before.before.before.before.before.before.before.before.before.before.before.before.before.before.requires.0) (c.before.before.before.before.before.before.before.before.before.before.before.before.before.before.before.before.compact.ensures) (c.before.before.before.before.widen.ensures)
+returns : tie.Need-returns
+returns c = grown-after c.requires.0 c.compact-p.ensures c.widen.ensures
 
 pub repack_spec : {M : Type 1} → statement M
 repack_spec =
     tie.close
     (tie.spec
-    compact-requires
-    add-if1
+    compact-p-requires
+    overflow_add-p
     relocate-requires
-    same_length
-    same-length-2
-    same-length-3
-    returns
+    shape_of-slots-then-p-size
+    shape_of-dir-then-p-size
+    shape_of-cells-then-p-size
+    returns-then-p-size
     widen-requires
-    same-length-4
-    same-length-5
-    same-length-6
-    returns-2)
+    shape_of-slots
+    shape_of-dir
+    shape_of-cells
+    returns)

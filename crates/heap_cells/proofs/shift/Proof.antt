@@ -7,32 +7,32 @@ use Rattle.heap_cells.proofs.ShiftLaws.{shift_none, shift_trans, shifting_next}
 use Rattle.heap_cells.proofs.shift.Statement.{statement}
 use Rattle.heap_cells.proofs.shift.Tie as tie
 
-abbrev invariant_loop : tie.invariant_loop
+abbrev invariant_loop : tie.invariant-loop-k
 invariant_loop slots₀ n dir first last by k₀ slots k = (first ≤ k) × (k ≤ last) × Shifted n first k by slots₀ slots
 
-abbrev decreases_loop : tie.decreases_loop
+abbrev decreases_loop : tie.decreases-loop-k
 decreases_loop slots₀ n dir first last by k₀ slots k = last - k
 
-loop-holds : tie.Need-loop-init invariant_loop decreases_loop
-loop-holds c = (omega arith, c.before.before.requires.k_last, shift_none _ _ _ _)
+loop-k-init : tie.Need-loop-k-init invariant_loop decreases_loop
+loop-k-init c = (omega arith, c.requires.k_last, shift_none _ _ _ _)
 
-shift-entry-requires : tie.Need-shift-entry-requires invariant_loop decreases_loop
-shift-entry-requires c κs = (shifting_next (c.before.before.loop.invariant.2) c.before.before.before.before.before.requires (c.before.before.loop.invariant.0) (c.before.before.loop.invariant.1), c.before.loop-test.true)
+shift_entry-requires : tie.Need-shift_entry-requires invariant_loop decreases_loop
+shift_entry-requires c κs = (shifting_next c.loop-k.invariant.2 c.requires c.loop-k.invariant.0 c.loop-k.invariant.1, c.loop-k-test.true)
 
-add-k : tie.Need-overflow-add-k invariant_loop decreases_loop
-add-k c = omega (arith, c.before.before.before.before.loop-test.true, c.before.before.before.before.before.before.before.before.requires.dir_max)
+overflow_add-k : tie.Need-overflow_add-k invariant_loop decreases_loop
+overflow_add-k c = omega (arith, c.loop-k-test.true, c.requires.dir_max)
 
-loop-less : tie.Need-loop-smaller invariant_loop decreases_loop
-loop-less c = omega (arith, c.before.before.before.before.loop-test.true)
+loop-k-smaller : tie.Need-loop-k-smaller invariant_loop decreases_loop
+loop-k-smaller c = omega (arith, c.loop-k-test.true)
 
-loop-again : tie.Need-loop-preserved invariant_loop decreases_loop
-loop-again c = (omega (arith, c.before.before.before.before.before.loop.invariant.0), omega (arith, c.before.before.before.before.loop-test.true), shift_trans (c.before.before.before.before.before.loop.invariant.2) (c.before.before.shift-entry.ensures) (c.before.before.before.before.before.loop.invariant.0) (omega arith))
+loop-k-preserved : tie.Need-loop-k-preserved invariant_loop decreases_loop
+loop-k-preserved c = (omega (arith, c.loop-k.invariant.0), omega (arith, c.loop-k-test.true), shift_trans c.loop-k.invariant.2 c.shift_entry.ensures c.loop-k.invariant.0 (omega arith))
 
-same_length : tie.Need-same-length invariant_loop decreases_loop
-same_length c = c.before.loop.invariant.2.len
+shape_of-slots : tie.Need-shape_of-slots invariant_loop decreases_loop
+shape_of-slots c = c.loop-k.invariant.2.len
 
 returns : tie.Need-returns invariant_loop decreases_loop
-returns c = rw (le_antisymm (c.before.loop.invariant.1) (c.loop-test.false)) at (c.before.loop.invariant.2)
+returns c = rw (le_antisymm c.loop-k.invariant.1 c.loop-k-test.false) at c.loop-k.invariant.2
 
 pub shift_spec : {M : Type 1} → statement M
 shift_spec =
@@ -40,10 +40,10 @@ shift_spec =
     (tie.spec
     invariant_loop
     decreases_loop
-    loop-holds
-    shift-entry-requires
-    add-k
-    loop-less
-    loop-again
-    same_length
+    loop-k-init
+    shift_entry-requires
+    overflow_add-k
+    loop-k-smaller
+    loop-k-preserved
+    shape_of-slots
     returns)

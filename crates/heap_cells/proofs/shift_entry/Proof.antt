@@ -5,55 +5,55 @@ use borrow.Author.Rules.{rules}
 use Rattle.heap_cells.proofs.shift_entry.Statement.{statement}
 use Rattle.heap_cells.proofs.shift_entry.Tie as tie
 
-mul-o : tie.Need-overflow-mul-o
-mul-o c = search rules
+offset_bounds-dir-at : tie.Need-offset_bounds-dir-at
+offset_bounds-dir-at c = search rules
 
-shared-slice-read-o : tie.Need-shared-slice-read-o
-shared-slice-read-o c = search rules
+bounds-dir-at : tie.Need-bounds-dir-at
+bounds-dir-at c = search rules
+
+returns-then-n-o : tie.Need-returns-then-n-o
+returns-then-n-o c = shift-outside c.requires.0 c.if-n-o.true
+
+read_header-h-requires : tie.Need-read_header-h-requires
+read_header-h-requires c κs = search rules
+
+shape_of-slots-then-h-eq0 : tie.Need-shape_of-slots-then-h-eq0
+shape_of-slots-then-h-eq0 c = search rules
+
+returns-then-h-eq0 : tie.Need-returns-then-h-eq0
+returns-then-h-eq0 c = shift-empty c.requires.0 c.read_header-h.ensures c.if-h-eq0.true
+
+shape_of-slots-then-h-k : tie.Need-shape_of-slots-then-h-k
+shape_of-slots-then-h-k c = search rules
+
+returns-then-h-k : tie.Need-returns-then-h-k
+returns-then-h-k c = shift_else c.requires.0 c.read_header-h.ensures c.if-h-k.true
+
+overflow_add-new : tie.Need-overflow_add-new
+overflow_add-new c = omega (arith, shift_fits c.requires.0 c.if-n-o.false c.read_header-h.ensures c.if-h-eq0.false c.if-h-k.false)
+
+write_header-requires : tie.Need-write_header-requires
+write_header-requires c κs = search rules
+
+shape_of-slots : tie.Need-shape_of-slots
+shape_of-slots c = search rules
 
 returns : tie.Need-returns
-returns c = shift-outside (c.before.before.before.before.requires.0) (c.if1.true)
-
-read-header-requires : tie.Need-read-header-requires
-read-header-requires c κs = search rules
-
-same_length : tie.Need-same-length
-same_length c = search rules
-
-returns-2 : tie.Need-returns-2
-returns-2 c = shift-empty (c.before.before.before.before.before.before.before.before.requires.0) (c.before.before.read-header.ensures) (c.if2.true)
-
-same-length-2 : tie.Need-same-length-2
-same-length-2 c = search rules
-
-returns-3 : tie.Need-returns-3
-returns-3 c = shift_else (c.before.before.before.before.before.before.before.before.before.before.requires.0) (c.before.before.before.before.read-header.ensures) (c.if3.true)
-
-add-new : tie.Need-overflow-add-new
-add-new c = omega (arith, shift_fits (c.before.before.before.before.before.before.before.before.before.before.before.requires.0) (c.before.before.before.before.before.before.before.if1.false) (c.before.before.before.before.before.read-header.ensures) (c.before.before.before.if2.false) (c.before.if3.false))
-
-write-header-requires : tie.Need-write-header-requires
-write-header-requires c κs = search rules
-
-same-length-3 : tie.Need-same-length-3
-same-length-3 c = search rules
-
-returns-4 : tie.Need-returns-4
-returns-4 c = shift_one (c.before.before.before.before.before.before.before.before.before.before.before.before.before.before.before.requires.0) (c.before.before.before.before.before.before.before.before.before.before.before.if1.false) (c.before.before.before.before.before.before.before.before.before.read-header.ensures) (c.before.before.before.before.before.before.before.if2.false) (c.before.before.before.before.before.if3.false) (c.before.before.write-header.ensures)
+returns c = shift_one c.requires.0 c.if-n-o.false c.read_header-h.ensures c.if-h-eq0.false c.if-h-k.false c.write_header.ensures
 
 pub shift_entry_spec : {M : Type 1} → statement M
 shift_entry_spec =
     tie.close
     (tie.spec
-    mul-o
-    shared-slice-read-o
-    returns
-    read-header-requires
-    same_length
-    returns-2
-    same-length-2
-    returns-3
-    add-new
-    write-header-requires
-    same-length-3
-    returns-4)
+    offset_bounds-dir-at
+    bounds-dir-at
+    returns-then-n-o
+    read_header-h-requires
+    shape_of-slots-then-h-eq0
+    returns-then-h-eq0
+    shape_of-slots-then-h-k
+    returns-then-h-k
+    overflow_add-new
+    write_header-requires
+    shape_of-slots
+    returns)

@@ -8,38 +8,38 @@ use Rattle.heap_cells.proofs.StringLaws.{next-digit, put_unpacked}
 use Rattle.heap_cells.proofs.unpack_rest.Statement.{statement}
 use Rattle.heap_cells.proofs.unpack_rest.Tie as tie
 
-abbrev invariant_loop : tie.invariant_loop
+abbrev invariant_loop : tie.invariant-loop-j
 invariant_loop w buffer₀ at n rest₀ j₀ buffer rest j = (j ≤ n) × Put (λ k. w / 256 ^ k % 256) buffer₀ buffer at j × (rest ≡ w / 256 ^ j)
 
-abbrev decreases_loop : tie.decreases_loop
+abbrev decreases_loop : tie.decreases-loop-j
 decreases_loop w buffer₀ at n rest₀ j₀ buffer rest j = n - j
 
-loop-holds : tie.Need-loop-init invariant_loop decreases_loop
-loop-holds c = (omega arith, put-none _ _ _, omega arith)
+loop-j-init : tie.Need-loop-j-init invariant_loop decreases_loop
+loop-j-init c = (omega arith, put-none _ _ _, omega arith)
 
-cast-buffer : tie.Need-overflow-cast-buffer invariant_loop decreases_loop
-cast-buffer c = omega arith
+overflow_cast-buffer : tie.Need-overflow_cast-buffer invariant_loop decreases_loop
+overflow_cast-buffer c = omega arith
 
-add-buffer : tie.Need-overflow-add-buffer invariant_loop decreases_loop
-add-buffer c = omega arith
+overflow_add-buffer : tie.Need-overflow_add-buffer invariant_loop decreases_loop
+overflow_add-buffer c = omega arith
 
-slice-write-buffer : tie.Need-slice-write-buffer invariant_loop decreases_loop
-slice-write-buffer c = omega (arith, c.before.loop.invariant.1.len)
+bounds-buffer-at : tie.Need-bounds-buffer-at invariant_loop decreases_loop
+bounds-buffer-at c = omega (arith, c.loop-j.invariant.1.len)
 
-add-j : tie.Need-overflow-add-j invariant_loop decreases_loop
-add-j c = omega arith
+overflow_add-j : tie.Need-overflow_add-j invariant_loop decreases_loop
+overflow_add-j c = omega arith
 
-loop-less : tie.Need-loop-smaller invariant_loop decreases_loop
-loop-less c = omega arith
+loop-j-smaller : tie.Need-loop-j-smaller invariant_loop decreases_loop
+loop-j-smaller c = omega arith
 
-loop-again : tie.Need-loop-preserved invariant_loop decreases_loop
-loop-again c = (omega arith, put-more _ (c.before.loop.invariant.1) (omega arith) (ap (λ (x : ℕ). x % 256) (c.before.loop.invariant.2)), ap (λ (x : ℕ). x / 256) (c.before.loop.invariant.2) ∙ next-digit _ _)
+loop-j-preserved : tie.Need-loop-j-preserved invariant_loop decreases_loop
+loop-j-preserved c = (omega arith, put-more _ c.loop-j.invariant.1 (omega arith) (ap (λ (x : ℕ). x % 256) c.loop-j.invariant.2), ap (λ (x : ℕ). x / 256) c.loop-j.invariant.2 ∙ next-digit _ _)
 
-same_length : tie.Need-same-length invariant_loop decreases_loop
-same_length c = c.before.loop.invariant.1.len
+shape_of-buffer : tie.Need-shape_of-buffer invariant_loop decreases_loop
+shape_of-buffer c = c.loop-j.invariant.1.len
 
 returns : tie.Need-returns invariant_loop decreases_loop
-returns c = put_unpacked (rw (le_antisymm (c.before.loop.invariant.0) (c.loop-test.false)) at (c.before.loop.invariant.1))
+returns c = put_unpacked (rw (le_antisymm c.loop-j.invariant.0 c.loop-j-test.false) at c.loop-j.invariant.1)
 
 pub unpack_rest_spec : {M : Type 1} → statement M
 unpack_rest_spec =
@@ -47,12 +47,12 @@ unpack_rest_spec =
     (tie.spec
     invariant_loop
     decreases_loop
-    loop-holds
-    cast-buffer
-    add-buffer
-    slice-write-buffer
-    add-j
-    loop-less
-    loop-again
-    same_length
+    loop-j-init
+    overflow_cast-buffer
+    overflow_add-buffer
+    bounds-buffer-at
+    overflow_add-j
+    loop-j-smaller
+    loop-j-preserved
+    shape_of-buffer
     returns)

@@ -5,59 +5,59 @@ use borrow.Author.Rules.{rules}
 use Rattle.heap_cells.proofs.widen.Statement.{statement}
 use Rattle.heap_cells.proofs.widen.Tie as tie
 
-read-header-requires : tie.Need-read-header-requires
-read-header-requires c κs = search rules
+read_header-h-requires : tie.Need-read_header-h-requires
+read_header-h-requires c κs = search rules
 
-sub_by : tie.Need-overflow-sub-by
-sub_by c = let b = widen_fits (c.before.before.before.before.before.before.requires.0) (c.before.before.before.before.before.before.requires.1) (c.before.before.before.before.before.before.requires.2) (c.before.read-header.ensures) in omega (arith, b.more, b.end, b.top, b.cells, b.entry, b.entries)
+overflow_sub-by : tie.Need-overflow_sub-by
+overflow_sub-by c = let b = widen_fits c.requires.0 c.requires.1 c.requires.2 c.read_header-h.ensures in omega (arith, b.more, b.end, b.top, b.cells, b.entry, b.entries)
 
-add-end : tie.Need-overflow-add-end
-add-end c = let b = widen_fits (c.before.before.before.before.before.before.before.requires.0) (c.before.before.before.before.before.before.before.requires.1) (c.before.before.before.before.before.before.before.requires.2) (c.before.before.read-header.ensures) in omega (arith, b.more, b.end, b.top, b.cells, b.entry, b.entries)
+overflow_add-end : tie.Need-overflow_add-end
+overflow_add-end c = let b = widen_fits c.requires.0 c.requires.1 c.requires.2 c.read_header-h.ensures in omega (arith, b.more, b.end, b.top, b.cells, b.entry, b.entries)
 
-add-move-up : tie.Need-overflow-add-move-up
-add-move-up c = let b = widen_fits (c.before.before.before.before.before.before.before.before.requires.0) (c.before.before.before.before.before.before.before.before.requires.1) (c.before.before.before.before.before.before.before.before.requires.2) (c.before.before.before.read-header.ensures) in omega (arith, b.more, b.end, b.top, b.cells, b.entry, b.entries)
+overflow_add-end-2 : tie.Need-overflow_add-end-2
+overflow_add-end-2 c = let b = widen_fits c.requires.0 c.requires.1 c.requires.2 c.read_header-h.ensures in omega (arith, b.more, b.end, b.top, b.cells, b.entry, b.entries)
 
-sub-move-up : tie.Need-overflow-sub-move-up
-sub-move-up c = let b = widen_fits (c.before.before.before.before.before.before.before.before.before.requires.0) (c.before.before.before.before.before.before.before.before.before.requires.1) (c.before.before.before.before.before.before.before.before.before.requires.2) (c.before.before.before.before.read-header.ensures) in omega (arith, b.more, b.end, b.top, b.cells, b.entry, b.entries)
+overflow_sub-t : tie.Need-overflow_sub-t
+overflow_sub-t c = let b = widen_fits c.requires.0 c.requires.1 c.requires.2 c.read_header-h.ensures in omega (arith, b.more, b.end, b.top, b.cells, b.entry, b.entries)
 
-move-up-requires : tie.Need-move-up-requires
-move-up-requires c κs = let b = widen_fits (c.before.before.before.before.before.before.before.before.before.requires.0) (c.before.before.before.before.before.before.before.before.before.requires.1) (c.before.before.before.before.before.before.before.before.before.requires.2) (c.before.before.before.before.read-header.ensures) in (omega arith, omega (arith, b.more, b.end, b.top), b.cells)
+move_up-requires : tie.Need-move_up-requires
+move_up-requires c κs = let b = widen_fits c.requires.0 c.requires.1 c.requires.2 c.read_header-h.ensures in (omega arith, omega (arith, b.more, b.end, b.top), b.cells)
 
-add-shift : tie.Need-overflow-add-shift
-add-shift c = let b = widen_fits (c.before.before.before.before.before.before.before.before.before.before.before.before.before.before.requires.0) (c.before.before.before.before.before.before.before.before.before.before.before.before.before.before.requires.1) (c.before.before.before.before.before.before.before.before.before.before.before.before.before.before.requires.2) (c.before.before.before.before.before.before.before.before.before.read-header.ensures) in omega (arith, b.more, b.end, b.top, b.cells, b.entry, b.entries)
+overflow_add-h : tie.Need-overflow_add-h
+overflow_add-h c = let b = widen_fits c.requires.0 c.requires.1 c.requires.2 c.read_header-h.ensures in omega (arith, b.more, b.end, b.top, b.cells, b.entry, b.entries)
 
 shift-requires : tie.Need-shift-requires
-shift-requires c κs = widen_shifting (c.before.before.before.before.before.before.before.before.before.before.before.before.before.before.requires.0) (c.before.before.before.before.before.before.before.before.before.before.before.before.before.before.requires.1) (c.before.before.before.before.before.before.before.before.before.before.before.before.before.before.requires.2) (c.before.before.before.before.before.before.before.before.before.read-header.ensures)
+shift-requires c κs = widen_shifting c.requires.0 c.requires.1 c.requires.2 c.read_header-h.ensures
 
-write-header-requires : tie.Need-write-header-requires
-write-header-requires c κs = omega (arith, c.before.before.before.before.before.before.before.before.before.before.before.before.before.before.before.before.before.before.requires.0.laid.slots_max, c.before.before.before.before.before.before.before.before.before.before.before.before.before.before.before.before.before.before.requires.0.laid.slots_fit, c.before.before.before.before.before.before.before.before.before.before.before.before.before.before.before.before.before.before.requires.0.within, c.before.before.before.shift.ensures.len)
+write_header-requires : tie.Need-write_header-requires
+write_header-requires c κs = omega (arith, c.requires.0.laid.slots_max, c.requires.0.laid.slots_fit, c.requires.0.within, c.shift.ensures.len)
 
-add-t20 : tie.Need-overflow-add-t20
-add-t20 c = let b = widen_fits (c.before.before.before.before.before.before.before.before.before.before.before.before.before.before.before.before.before.before.before.before.before.before.requires.0) (c.before.before.before.before.before.before.before.before.before.before.before.before.before.before.before.before.before.before.before.before.before.before.requires.1) (c.before.before.before.before.before.before.before.before.before.before.before.before.before.before.before.before.before.before.before.before.before.before.requires.2) (c.before.before.before.before.before.before.before.before.before.before.before.before.before.before.before.before.before.read-header.ensures) in omega (arith, b.more, b.end, b.top, b.cells, b.entry, b.entries)
+overflow_add-result : tie.Need-overflow_add-result
+overflow_add-result c = let b = widen_fits c.requires.0 c.requires.1 c.requires.2 c.read_header-h.ensures in omega (arith, b.more, b.end, b.top, b.cells, b.entry, b.entries)
 
-same_length : tie.Need-same-length
-same_length c = search rules
+shape_of-slots : tie.Need-shape_of-slots
+shape_of-slots c = search rules
 
-same-length-2 : tie.Need-same-length-2
-same-length-2 c = search rules
+shape_of-cells : tie.Need-shape_of-cells
+shape_of-cells c = search rules
 
 returns : tie.Need-returns
-returns c = grown_widened (c.before.before.before.before.before.before.before.before.before.before.before.before.before.before.before.before.before.before.before.before.before.before.requires.0) (c.before.before.before.before.before.before.before.before.before.before.before.before.before.before.before.before.before.before.before.before.before.before.requires.1) (c.before.before.before.before.before.before.before.before.before.before.before.before.before.before.before.before.before.before.before.before.before.before.requires.2) (c.before.before.before.before.before.before.before.before.before.before.before.before.before.before.before.before.before.read-header.ensures) (c.before.before.before.before.before.before.before.before.before.before.before.before.move_up.ensures) (c.before.before.before.before.before.before.before.shift.ensures) (c.before.before.before.write-header.ensures)
+returns c = grown_widened c.requires.0 c.requires.1 c.requires.2 c.read_header-h.ensures c.move_up.ensures c.shift.ensures c.write_header.ensures
 
 pub widen_spec : {M : Type 1} → statement M
 widen_spec =
     tie.close
     (tie.spec
-    read-header-requires
-    sub_by
-    add-end
-    add-move-up
-    sub-move-up
-    move-up-requires
-    add-shift
+    read_header-h-requires
+    overflow_sub-by
+    overflow_add-end
+    overflow_add-end-2
+    overflow_sub-t
+    move_up-requires
+    overflow_add-h
     shift-requires
-    write-header-requires
-    add-t20
-    same_length
-    same-length-2
+    write_header-requires
+    overflow_add-result
+    shape_of-slots
+    shape_of-cells
     returns)

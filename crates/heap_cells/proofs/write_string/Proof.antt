@@ -7,68 +7,68 @@ use Rattle.heap_cells.proofs.StringLaws.{Writing, writing_none, writing_more, wr
 use Rattle.heap_cells.proofs.write_string.Statement.{statement}
 use Rattle.heap_cells.proofs.write_string.Tie as tie
 
-abbrev invariant_loop : tie.invariant_loop
+abbrev invariant_loop : tie.invariant-loop-q
 invariant_loop bytes cells₀ from whole q₀ cells q = (q ≤ whole) × Writing bytes cells₀ cells from q
 
-abbrev decreases_loop : tie.decreases_loop
+abbrev decreases_loop : tie.decreases-loop-q
 decreases_loop bytes cells₀ from whole q₀ cells q = whole - q
 
-loop-holds : tie.Need-loop-init invariant_loop decreases_loop
-loop-holds c = (omega arith, writing_none _ _ _)
+loop-q-init : tie.Need-loop-q-init invariant_loop decreases_loop
+loop-q-init c = (omega arith, writing_none _ _ _)
 
-mul-pack-cell : tie.Need-overflow-mul-pack-cell invariant_loop decreases_loop
-mul-pack-cell c = omega arith
+overflow_mul-q : tie.Need-overflow_mul-q invariant_loop decreases_loop
+overflow_mul-q c = omega arith
 
-pack-cell-requires : tie.Need-pack-cell-requires invariant_loop decreases_loop
-pack-cell-requires c κs = omega arith
+pack_cell-requires : tie.Need-pack_cell-requires invariant_loop decreases_loop
+pack_cell-requires c κs = omega arith
 
-add-cells : tie.Need-overflow-add-cells invariant_loop decreases_loop
-add-cells c = omega arith
+overflow_add-cells : tie.Need-overflow_add-cells invariant_loop decreases_loop
+overflow_add-cells c = omega arith
 
-mul-cells : tie.Need-overflow-mul-cells invariant_loop decreases_loop
-mul-cells c = omega arith
+offset_bounds-cells-from : tie.Need-offset_bounds-cells-from invariant_loop decreases_loop
+offset_bounds-cells-from c = omega arith
 
-slice-write-cells : tie.Need-slice-write-cells invariant_loop decreases_loop
-slice-write-cells c = omega (arith, c.before.before.loop.invariant.1.len)
+bounds-cells-from : tie.Need-bounds-cells-from invariant_loop decreases_loop
+bounds-cells-from c = omega (arith, c.loop-q.invariant.1.len)
 
-add-q : tie.Need-overflow-add-q invariant_loop decreases_loop
-add-q c = omega arith
+overflow_add-q : tie.Need-overflow_add-q invariant_loop decreases_loop
+overflow_add-q c = omega arith
 
-loop-less : tie.Need-loop-smaller invariant_loop decreases_loop
-loop-less c = omega arith
+loop-q-smaller : tie.Need-loop-q-smaller invariant_loop decreases_loop
+loop-q-smaller c = omega arith
 
-loop-again : tie.Need-loop-preserved invariant_loop decreases_loop
-loop-again c = (omega arith, writing_more _ (c.before.before.loop.invariant.1) (c.pack-cell.ensures) (omega arith))
+loop-q-preserved : tie.Need-loop-q-preserved invariant_loop decreases_loop
+loop-q-preserved c = (omega arith, writing_more _ c.loop-q.invariant.1 c.pack_cell.ensures (omega arith))
 
-mul-if1 : tie.Need-overflow-mul-if1 invariant_loop decreases_loop
-mul-if1 c = omega arith
+overflow_mul-whole : tie.Need-overflow_mul-whole invariant_loop decreases_loop
+overflow_mul-whole c = omega arith
 
-mul-pack-rest : tie.Need-overflow-mul-pack-rest invariant_loop decreases_loop
-mul-pack-rest c = omega arith
+overflow_mul-whole-then-whole-bytes : tie.Need-overflow_mul-whole-then-whole-bytes invariant_loop decreases_loop
+overflow_mul-whole-then-whole-bytes c = omega arith
 
-pack-rest-requires : tie.Need-pack-rest-requires invariant_loop decreases_loop
-pack-rest-requires c κs = (omega arith, omega arith)
+pack_rest-requires : tie.Need-pack_rest-requires invariant_loop decreases_loop
+pack_rest-requires c κs = (omega arith, omega arith)
 
-add-cells-2 : tie.Need-overflow-add-cells-2 invariant_loop decreases_loop
-add-cells-2 c = omega arith
+overflow_add-cells-then-whole-bytes : tie.Need-overflow_add-cells-then-whole-bytes invariant_loop decreases_loop
+overflow_add-cells-then-whole-bytes c = omega arith
 
-mul-cells-2 : tie.Need-overflow-mul-cells-2 invariant_loop decreases_loop
-mul-cells-2 c = omega arith
+offset_bounds-cells-from-then-whole-bytes : tie.Need-offset_bounds-cells-from-then-whole-bytes invariant_loop decreases_loop
+offset_bounds-cells-from-then-whole-bytes c = omega arith
 
-slice-write-cells-2 : tie.Need-slice-write-cells-2 invariant_loop decreases_loop
-slice-write-cells-2 c = omega (arith, c.before.before.before.loop.invariant.1.len)
+bounds-cells-from-then-whole-bytes : tie.Need-bounds-cells-from-then-whole-bytes invariant_loop decreases_loop
+bounds-cells-from-then-whole-bytes c = omega (arith, c.loop-q.invariant.1.len)
 
-same_length : tie.Need-same-length invariant_loop decreases_loop
-same_length c = simp length-set (c.before.before.before.loop.invariant.1.len)
+shape_of-cells-then-whole-bytes : tie.Need-shape_of-cells-then-whole-bytes invariant_loop decreases_loop
+shape_of-cells-then-whole-bytes c = simp length-set c.loop-q.invariant.1.len
 
-returns : tie.Need-returns invariant_loop decreases_loop
-returns c = writing_end (writing_more _ (rw (le_antisymm (c.before.before.before.loop.invariant.0) (c.before.before.loop-test.false)) at (c.before.before.before.loop.invariant.1)) (c.pack-rest.ensures) (omega arith)) (omega arith) (omega arith)
+returns-then-whole-bytes : tie.Need-returns-then-whole-bytes invariant_loop decreases_loop
+returns-then-whole-bytes c = writing_end (writing_more _ (rw (le_antisymm c.loop-q.invariant.0 c.loop-q-test.false) at c.loop-q.invariant.1) c.pack_rest.ensures (omega arith)) (omega arith) (omega arith)
 
-same-length-2 : tie.Need-same-length-2 invariant_loop decreases_loop
-same-length-2 c = c.before.before.loop.invariant.1.len
+shape_of-cells-else-whole-bytes : tie.Need-shape_of-cells-else-whole-bytes invariant_loop decreases_loop
+shape_of-cells-else-whole-bytes c = c.loop-q.invariant.1.len
 
-returns-2 : tie.Need-returns-2 invariant_loop decreases_loop
-returns-2 c = writing_end (c.before.before.loop.invariant.1) (omega arith) (omega arith)
+returns-else-whole-bytes : tie.Need-returns-else-whole-bytes invariant_loop decreases_loop
+returns-else-whole-bytes c = writing_end c.loop-q.invariant.1 (omega arith) (omega arith)
 
 pub write_string_spec : {M : Type 1} → statement M
 write_string_spec =
@@ -76,22 +76,22 @@ write_string_spec =
     (tie.spec
     invariant_loop
     decreases_loop
-    loop-holds
-    mul-pack-cell
-    pack-cell-requires
-    add-cells
-    mul-cells
-    slice-write-cells
-    add-q
-    loop-less
-    loop-again
-    mul-if1
-    mul-pack-rest
-    pack-rest-requires
-    add-cells-2
-    mul-cells-2
-    slice-write-cells-2
-    same_length
-    returns
-    same-length-2
-    returns-2)
+    loop-q-init
+    overflow_mul-q
+    pack_cell-requires
+    overflow_add-cells
+    offset_bounds-cells-from
+    bounds-cells-from
+    overflow_add-q
+    loop-q-smaller
+    loop-q-preserved
+    overflow_mul-whole
+    overflow_mul-whole-then-whole-bytes
+    pack_rest-requires
+    overflow_add-cells-then-whole-bytes
+    offset_bounds-cells-from-then-whole-bytes
+    bounds-cells-from-then-whole-bytes
+    shape_of-cells-then-whole-bytes
+    returns-then-whole-bytes
+    shape_of-cells-else-whole-bytes
+    returns-else-whole-bytes)

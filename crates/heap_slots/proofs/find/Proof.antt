@@ -9,60 +9,60 @@ use Rattle.heap_slots.proofs.find.Tie as tie
 miss-requires : tie.Need-miss-requires
 miss-requires c κs = search rules
 
+returns-then-fresh-i : tie.Need-returns-then-fresh-i
+unfolding hit_first
+returns-then-fresh-i c = finds_so (simp (le-ltb _ _ c.if-fresh-i.true, c.miss.ensures))
+
+overflow_mul-p : tie.Need-overflow_mul-p
+overflow_mul-p c = search rules
+
+offset_bounds-slots-p : tie.Need-offset_bounds-slots-p
+offset_bounds-slots-p c = search rules
+
+bounds-slots-p : tie.Need-bounds-slots-p
+bounds-slots-p c = search rules
+
+miss-requires-then-slots-p : tie.Need-miss-requires-then-slots-p
+miss-requires-then-slots-p c κs = search rules
+
+returns-then-slots-p : tie.Need-returns-then-slots-p
+unfolding hit_first
+returns-then-slots-p c = finds_so (simp (lt-ltb _ _ c.if-fresh-i.false, ne_eqb _ _ c.if-slots-p.true, c.miss-then-slots-p.ensures))
+
+overflow_add-p : tie.Need-overflow_add-p
+overflow_add-p c = search rules
+
+offset_bounds-slots-p-2 : tie.Need-offset_bounds-slots-p-2
+offset_bounds-slots-p-2 c = search rules
+
+bounds-slots-p-2 : tie.Need-bounds-slots-p-2
+bounds-slots-p-2 c = search rules
+
+miss-requires-then-slots-p-eq-NONE : tie.Need-miss-requires-then-slots-p-eq-NONE
+miss-requires-then-slots-p-eq-NONE c κs = search rules
+
+returns-then-slots-p-eq-NONE : tie.Need-returns-then-slots-p-eq-NONE
+unfolding hit_first
+returns-then-slots-p-eq-NONE c = finds_so (simp (lt-ltb _ _ c.if-fresh-i.false, eq-eqb _ _ c.if-slots-p.false, eq-eqb _ _ c.if-slots-p-eq-NONE.true, c.miss-then-slots-p-eq-NONE.ensures))
+
 returns : tie.Need-returns
 unfolding hit_first
-returns c = finds_so (simp (le-ltb _ _ c.before.if1.true, c.miss.ensures))
-
-mul-p : tie.Need-overflow-mul-p
-mul-p c = search rules
-
-mul-if2 : tie.Need-overflow-mul-if2
-mul-if2 c = search rules
-
-shared-slice-read-if2 : tie.Need-shared-slice-read-if2
-shared-slice-read-if2 c = search rules
-
-miss-requires-2 : tie.Need-miss-requires-2
-miss-requires-2 c κs = search rules
-
-returns-2 : tie.Need-returns-2
-unfolding hit_first
-returns-2 c = finds_so (simp (lt-ltb _ _ c.before.before.before.if1.false, ne_eqb _ _ c.before.if2.true, c.miss2.ensures))
-
-add-if3 : tie.Need-overflow-add-if3
-add-if3 c = search rules
-
-mul-if3 : tie.Need-overflow-mul-if3
-mul-if3 c = search rules
-
-shared-slice-read-if3 : tie.Need-shared-slice-read-if3
-shared-slice-read-if3 c = search rules
-
-miss-requires-3 : tie.Need-miss-requires-3
-miss-requires-3 c κs = search rules
-
-returns-3 : tie.Need-returns-3
-unfolding hit_first
-returns-3 c = finds_so (simp (lt-ltb _ _ c.before.before.before.before.before.if1.false, eq-eqb _ _ c.before.before.before.if2.false, eq-eqb _ _ c.before.if3.true, c.miss3.ensures))
-
-returns-4 : tie.Need-returns-4
-unfolding hit_first
-returns-4 c = finds_so (simp (lt-ltb _ _ c.before.before.before.before.if1.false, eq-eqb _ _ c.before.before.if2.false, ne_eqb _ _ c.if3.false))
+returns c = finds_so (simp (lt-ltb _ _ c.if-fresh-i.false, eq-eqb _ _ c.if-slots-p.false, ne_eqb _ _ c.if-slots-p-eq-NONE.false))
 
 pub find_spec : {M : Type 1} → statement M
 find_spec =
     tie.close
     (tie.spec
     miss-requires
-    returns
-    mul-p
-    mul-if2
-    shared-slice-read-if2
-    miss-requires-2
-    returns-2
-    add-if3
-    mul-if3
-    shared-slice-read-if3
-    miss-requires-3
-    returns-3
-    returns-4)
+    returns-then-fresh-i
+    overflow_mul-p
+    offset_bounds-slots-p
+    bounds-slots-p
+    miss-requires-then-slots-p
+    returns-then-slots-p
+    overflow_add-p
+    offset_bounds-slots-p-2
+    bounds-slots-p-2
+    miss-requires-then-slots-p-eq-NONE
+    returns-then-slots-p-eq-NONE
+    returns)

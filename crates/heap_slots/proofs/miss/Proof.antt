@@ -4,25 +4,32 @@ use Rattle.heap_slots.specs.Lookup.{missed}
 use Rattle.heap_slots.proofs.miss.Statement.{statement}
 use Rattle.heap_slots.proofs.miss.Tie as tie
 
+returns-then-u-ge-HALF_END : tie.Need-returns-then-u-ge-HALF_END
+unfolding missed
+returns-then-u-ge-HALF_END c = simp (le-leb _ _ c.if-u-ge-HALF_END.true)
+
+returns-then-u-ge-HALF : tie.Need-returns-then-u-ge-HALF
+unfolding missed
+returns-then-u-ge-HALF c = simp (lt-leb _ _ c.if-u-ge-HALF_END.false, le-leb _ _ c.if-u-ge-HALF.true)
+
+returns-then-u-eq1 : tie.Need-returns-then-u-eq1
+unfolding missed
+returns-then-u-eq1 c = simp (lt-leb _ _ c.if-u-ge-HALF_END.false, lt-leb _ _ c.if-u-ge-HALF.false, eq-eqb _ _ c.if-u-eq1.true)
+
+returns-then-u-eq2 : tie.Need-returns-then-u-eq2
+unfolding missed
+returns-then-u-eq2 c = simp (lt-leb _ _ c.if-u-ge-HALF_END.false, lt-leb _ _ c.if-u-ge-HALF.false, ne_eqb _ _ c.if-u-eq1.false, eq-eqb _ _ c.if-u-eq2.true)
+
 returns : tie.Need-returns
 unfolding missed
-returns c = simp (le-leb _ _ c.if1.true)
-
-returns-2 : tie.Need-returns-2
-unfolding missed
-returns-2 c = simp (lt-leb _ _ c.before.if1.false, le-leb _ _ c.if2.true)
-
-returns-3 : tie.Need-returns-3
-unfolding missed
-returns-3 c = simp (lt-leb _ _ c.before.before.if1.false, lt-leb _ _ c.before.if2.false, eq-eqb _ _ c.if3.true)
-
-returns-4 : tie.Need-returns-4
-unfolding missed
-returns-4 c = simp (lt-leb _ _ c.before.before.before.if1.false, lt-leb _ _ c.before.before.if2.false, ne_eqb _ _ c.before.if3.false, eq-eqb _ _ c.if4.true)
-
-returns-5 : tie.Need-returns-5
-unfolding missed
-returns-5 c = simp (lt-leb _ _ c.before.before.before.if1.false, lt-leb _ _ c.before.before.if2.false, ne_eqb _ _ c.before.if3.false, ne_eqb _ _ c.if4.false)
+returns c = simp (lt-leb _ _ c.if-u-ge-HALF_END.false, lt-leb _ _ c.if-u-ge-HALF.false, ne_eqb _ _ c.if-u-eq1.false, ne_eqb _ _ c.if-u-eq2.false)
 
 pub miss_spec : {M : Type 1} → statement M
-miss_spec = tie.close (tie.spec returns returns-2 returns-3 returns-4 returns-5)
+miss_spec =
+    tie.close
+    (tie.spec
+    returns-then-u-ge-HALF_END
+    returns-then-u-ge-HALF
+    returns-then-u-eq1
+    returns-then-u-eq2
+    returns)

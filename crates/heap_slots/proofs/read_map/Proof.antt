@@ -5,13 +5,17 @@ use Rattle.heap_slots.specs.Scalars.{map_part}
 use Rattle.heap_slots.proofs.read_map.Statement.{statement}
 use Rattle.heap_slots.proofs.read_map.Tie as tie
 
-read-scalars-requires : tie.Need-read-scalars-requires
-read-scalars-requires c κs = search rules
+read_scalars-x-requires : tie.Need-read_scalars-x-requires
+read_scalars-x-requires c κs = search rules
 
 returns : tie.Need-returns
 returns c =
-    let at_read : tie.After-read-scalars = search in
-    ap map_part at_read.read-scalars.ensures
+    let at_read : tie.After-read_scalars-x = search in
+    ap map_part at_read.read_scalars-x.ensures
 
 pub read_map_spec : {M : Type 1} → statement M
-read_map_spec = tie.close (tie.spec read-scalars-requires returns)
+read_map_spec =
+    tie.close
+    (tie.spec
+    read_scalars-x-requires
+    returns)

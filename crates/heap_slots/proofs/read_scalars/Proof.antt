@@ -4,77 +4,77 @@ use borrow.Author.Rules.{rules}
 use Rattle.heap_slots.proofs.read_scalars.Statement.{statement}
 use Rattle.heap_slots.proofs.read_scalars.Tie as tie
 
-mul-p : tie.Need-overflow-mul-p
-mul-p c = search rules
+overflow_mul-p : tie.Need-overflow_mul-p
+overflow_mul-p c = search rules
 
-mul-t4 : tie.Need-overflow-mul-t4
-mul-t4 c = search rules
+offset_bounds-scalars-p : tie.Need-offset_bounds-scalars-p
+offset_bounds-scalars-p c = search rules
 
-shared-slice-read-t6 : tie.Need-shared-slice-read-t6
-shared-slice-read-t6 c = search rules
+bounds-scalars-p : tie.Need-bounds-scalars-p
+bounds-scalars-p c = search rules
 
-add-t7 : tie.Need-overflow-add-t7
-add-t7 c = search rules
+overflow_add-result : tie.Need-overflow_add-result
+overflow_add-result c = search rules
 
-mul-t8 : tie.Need-overflow-mul-t8
-mul-t8 c = search rules
+offset_bounds-scalars-p-2 : tie.Need-offset_bounds-scalars-p-2
+offset_bounds-scalars-p-2 c = search rules
 
-shared-slice-read-t10 : tie.Need-shared-slice-read-t10
-shared-slice-read-t10 c = search rules
+bounds-scalars-p-2 : tie.Need-bounds-scalars-p-2
+bounds-scalars-p-2 c = search rules
 
-add-t11 : tie.Need-overflow-add-t11
-add-t11 c = search rules
+overflow_add-result-2 : tie.Need-overflow_add-result-2
+overflow_add-result-2 c = search rules
 
-mul-t12 : tie.Need-overflow-mul-t12
-mul-t12 c = search rules
+offset_bounds-scalars-p-3 : tie.Need-offset_bounds-scalars-p-3
+offset_bounds-scalars-p-3 c = search rules
 
-shared-slice-read-t14 : tie.Need-shared-slice-read-t14
-shared-slice-read-t14 c = search rules
+bounds-scalars-p-3 : tie.Need-bounds-scalars-p-3
+bounds-scalars-p-3 c = search rules
 
-add-t15 : tie.Need-overflow-add-t15
-add-t15 c = search rules
+overflow_add-result-3 : tie.Need-overflow_add-result-3
+overflow_add-result-3 c = search rules
 
-mul-t16 : tie.Need-overflow-mul-t16
-mul-t16 c = search rules
+offset_bounds-scalars-p-4 : tie.Need-offset_bounds-scalars-p-4
+offset_bounds-scalars-p-4 c = search rules
 
-shared-slice-read-t18 : tie.Need-shared-slice-read-t18
-shared-slice-read-t18 c = search rules
+bounds-scalars-p-4 : tie.Need-bounds-scalars-p-4
+bounds-scalars-p-4 c = search rules
 
-add-t19 : tie.Need-overflow-add-t19
-add-t19 c = search rules
+overflow_add-result-4 : tie.Need-overflow_add-result-4
+overflow_add-result-4 c = search rules
 
-mul-t20 : tie.Need-overflow-mul-t20
-mul-t20 c = search rules
+offset_bounds-scalars-p-5 : tie.Need-offset_bounds-scalars-p-5
+offset_bounds-scalars-p-5 c = search rules
 
-shared-slice-read-t22 : tie.Need-shared-slice-read-t22
-shared-slice-read-t22 c = search rules
+bounds-scalars-p-5 : tie.Need-bounds-scalars-p-5
+bounds-scalars-p-5 c = search rules
 
-add-t23 : tie.Need-overflow-add-t23
-add-t23 c = search rules
+overflow_add-result-5 : tie.Need-overflow_add-result-5
+overflow_add-result-5 c = search rules
 
-mul-t24 : tie.Need-overflow-mul-t24
-mul-t24 c = search rules
+offset_bounds-scalars-p-6 : tie.Need-offset_bounds-scalars-p-6
+offset_bounds-scalars-p-6 c = search rules
 
-shared-slice-read-t26 : tie.Need-shared-slice-read-t26
-shared-slice-read-t26 c = search rules
+bounds-scalars-p-6 : tie.Need-bounds-scalars-p-6
+bounds-scalars-p-6 c = search rules
 
-add-t27 : tie.Need-overflow-add-t27
-add-t27 c = search rules
+overflow_add-result-6 : tie.Need-overflow_add-result-6
+overflow_add-result-6 c = search rules
 
-mul-t28 : tie.Need-overflow-mul-t28
-mul-t28 c = search rules
+offset_bounds-scalars-p-7 : tie.Need-offset_bounds-scalars-p-7
+offset_bounds-scalars-p-7 c = search rules
 
-shared-slice-read-t30 : tie.Need-shared-slice-read-t30
-shared-slice-read-t30 c = search rules
+bounds-scalars-p-7 : tie.Need-bounds-scalars-p-7
+bounds-scalars-p-7 c = search rules
 
-add-t31 : tie.Need-overflow-add-t31
-add-t31 c = search rules
+overflow_add-result-7 : tie.Need-overflow_add-result-7
+overflow_add-result-7 c = search rules
 
-mul-t32 : tie.Need-overflow-mul-t32
-mul-t32 c = search rules
+offset_bounds-scalars-p-8 : tie.Need-offset_bounds-scalars-p-8
+offset_bounds-scalars-p-8 c = search rules
 
-shared-slice-read-t34 : tie.Need-shared-slice-read-t34
-shared-slice-read-t34 c = search rules
+bounds-scalars-p-8 : tie.Need-bounds-scalars-p-8
+bounds-scalars-p-8 c = search rules
 
 returns : tie.Need-returns
 unfolding scalars_at
@@ -84,28 +84,28 @@ pub read_scalars_spec : {M : Type 1} → statement M
 read_scalars_spec =
     tie.close
     (tie.spec
-    mul-p
-    mul-t4
-    shared-slice-read-t6
-    add-t7
-    mul-t8
-    shared-slice-read-t10
-    add-t11
-    mul-t12
-    shared-slice-read-t14
-    add-t15
-    mul-t16
-    shared-slice-read-t18
-    add-t19
-    mul-t20
-    shared-slice-read-t22
-    add-t23
-    mul-t24
-    shared-slice-read-t26
-    add-t27
-    mul-t28
-    shared-slice-read-t30
-    add-t31
-    mul-t32
-    shared-slice-read-t34
+    overflow_mul-p
+    offset_bounds-scalars-p
+    bounds-scalars-p
+    overflow_add-result
+    offset_bounds-scalars-p-2
+    bounds-scalars-p-2
+    overflow_add-result-2
+    offset_bounds-scalars-p-3
+    bounds-scalars-p-3
+    overflow_add-result-3
+    offset_bounds-scalars-p-4
+    bounds-scalars-p-4
+    overflow_add-result-4
+    offset_bounds-scalars-p-5
+    bounds-scalars-p-5
+    overflow_add-result-5
+    offset_bounds-scalars-p-6
+    bounds-scalars-p-6
+    overflow_add-result-6
+    offset_bounds-scalars-p-7
+    bounds-scalars-p-7
+    overflow_add-result-7
+    offset_bounds-scalars-p-8
+    bounds-scalars-p-8
     returns)

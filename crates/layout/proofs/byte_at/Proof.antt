@@ -5,17 +5,23 @@ use borrow.Author.Rules.{rules}
 use Rattle.layout.proofs.byte_at.Statement.{statement}
 use Rattle.layout.proofs.byte_at.Tie as tie
 
-shared-slice-read-result : tie.Need-shared-slice-read-result
-shared-slice-read-result c = search rules
+bounds-bytes-at : tie.Need-bounds-bytes-at
+bounds-bytes-at c = search rules
 
-cast-result : tie.Need-overflow-cast-result
-cast-result c = omega (arith, c.shared-slice-known.given c.before.before.args.at)
+overflow_cast-result : tie.Need-overflow_cast-result
+overflow_cast-result c = omega (arith, c.shared_slice_known-1.given c.args.at)
 
-returns : tie.Need-returns
-returns c = record { is = refl; small = omega (arith, c.shared-slice-known.given c.before.before.args.at) }
+returns-then-at-bytes : tie.Need-returns-then-at-bytes
+returns-then-at-bytes c = record { is = refl; small = omega (arith, c.shared_slice_known-1.given c.args.at) }
 
-returns-2 : tie.Need-returns-2
-returns-2 c = record { is = sym (get_or-eq_default c.before.args.bytes.now 0 c.if1.false); small = omega arith }
+returns-else-at-bytes : tie.Need-returns-else-at-bytes
+returns-else-at-bytes c = record { is = sym (get_or-eq_default c.args.bytes.now 0 c.if-at-bytes.false); small = omega arith }
 
 pub byte_at_spec : {M : Type 1} → statement M
-byte_at_spec = tie.close (tie.spec shared-slice-read-result cast-result returns returns-2)
+byte_at_spec =
+    tie.close
+    (tie.spec
+    bounds-bytes-at
+    overflow_cast-result
+    returns-then-at-bytes
+    returns-else-at-bytes)

@@ -5,16 +5,21 @@ use borrow.Author.Rules.{rules}
 use Rattle.layout.proofs.counted.Statement.{statement}
 use Rattle.layout.proofs.counted.Tie as tie
 
-add-result : tie.Need-overflow-add-result
-add-result c = search rules
+overflow_add-result : tie.Need-overflow_add-result
+overflow_add-result c = search rules
 
-returns : tie.Need-returns
+returns-then-command-begins : tie.Need-returns-then-command-begins
 unfolding counted_by
-returns c = rw (eq-eqb c.before.args.command c.before.args.begins c.if1.true, add-one)
+returns-then-command-begins c = rw (eq-eqb c.args.command c.args.begins c.if-command-begins.true, add-one)
 
-returns-2 : tie.Need-returns-2
+returns-else-command-begins : tie.Need-returns-else-command-begins
 unfolding counted_by
-returns-2 c = rw (ne_eqb c.before.args.command c.before.args.begins c.if1.false)
+returns-else-command-begins c = rw (ne_eqb c.args.command c.args.begins c.if-command-begins.false)
 
 pub counted_spec : {M : Type 1} → statement M
-counted_spec = tie.close (tie.spec add-result returns returns-2)
+counted_spec =
+    tie.close
+    (tie.spec
+    overflow_add-result
+    returns-then-command-begins
+    returns-else-command-begins)

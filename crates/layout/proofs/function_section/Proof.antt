@@ -4,31 +4,31 @@ use borrow.Author.Rules.{rules}
 use Rattle.layout.proofs.function_section.Statement.{statement}
 use Rattle.layout.proofs.function_section.Tie as tie
 
-shared-slice-read-if1 : tie.Need-shared-slice-read-if1
-shared-slice-read-if1 c = search rules
+bounds-table-513 : tie.Need-bounds-table-513
+bounds-table-513 c = search rules
 
-add-result : tie.Need-overflow-add-result
-add-result c = omega (arith, function-inside c.before.before.args.bytes.now c.before.before.args.table.now c.before.before.requires c.before.before.args.number c.if1.true)
+overflow_add-result : tie.Need-overflow_add-result
+overflow_add-result c = omega (arith, function-inside c.args.bytes.now c.args.table.now c.requires c.args.number c.if-number-table.true)
 
-mul-result : tie.Need-overflow-mul-result
-mul-result c = omega (arith, function-inside c.before.before.args.bytes.now c.before.before.args.table.now c.before.before.requires c.before.before.args.number c.if1.true)
+offset_bounds-table-number : tie.Need-offset_bounds-table-number
+offset_bounds-table-number c = omega (arith, function-inside c.args.bytes.now c.args.table.now c.requires c.args.number c.if-number-table.true)
 
-shared-slice-read-result : tie.Need-shared-slice-read-result
-shared-slice-read-result c = omega (arith, function-inside c.before.before.before.args.bytes.now c.before.before.before.args.table.now c.before.before.before.requires c.before.before.before.args.number c.before.if1.true, c.before.before.before.requires.room)
+bounds-table-number : tie.Need-bounds-table-number
+bounds-table-number c = omega (arith, function-inside c.args.bytes.now c.args.table.now c.requires c.args.number c.if-number-table.true, c.requires.room)
 
-returns : tie.Need-returns
-returns c = function_known c.before.before.before.args.bytes.now c.before.before.before.args.table.now c.before.before.before.requires c.before.before.before.args.number c.before.if1.true
+returns-then-number-table : tie.Need-returns-then-number-table
+returns-then-number-table c = function_known c.args.bytes.now c.args.table.now c.requires c.args.number c.if-number-table.true
 
-returns-2 : tie.Need-returns-2
-returns-2 c = function-unknown c.before.before.args.bytes.now c.before.before.args.table.now c.before.before.requires c.before.before.args.number c.if1.false
+returns-else-number-table : tie.Need-returns-else-number-table
+returns-else-number-table c = function-unknown c.args.bytes.now c.args.table.now c.requires c.args.number c.if-number-table.false
 
 pub function_section_spec : {M : Type 1} → statement M
 function_section_spec =
     tie.close
     (tie.spec
-    shared-slice-read-if1
-    add-result
-    mul-result
-    shared-slice-read-result
-    returns
-    returns-2)
+    bounds-table-513
+    overflow_add-result
+    offset_bounds-table-number
+    bounds-table-number
+    returns-then-number-table
+    returns-else-number-table)

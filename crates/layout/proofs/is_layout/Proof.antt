@@ -8,74 +8,74 @@ use borrow.Author.Tests.{not-true, not-false}
 use Rattle.layout.proofs.is_layout.Statement.{statement}
 use Rattle.layout.proofs.is_layout.Tie as tie
 
-abbrev invariant_loop : tie.invariant_loop
+abbrev invariant_loop : tie.invariant-loop-i
 invariant_loop bytes skip₀ under₀ structs₀ functions₀ i₀ skip under structs functions i = Checking bytes skip under structs functions i
 
-abbrev decreases_loop : tie.decreases_loop
+abbrev decreases_loop : tie.decreases-loop-i
 decreases_loop bytes skip₀ under₀ structs₀ functions₀ i₀ skip under structs functions i = length bytes - i
 
-loop-holds : tie.Need-loop-init invariant_loop decreases_loop
-loop-holds c = checking_start c.before.args.bytes.now
+loop-i-init : tie.Need-loop-i-init invariant_loop decreases_loop
+loop-i-init c = checking_start c.args.bytes.now
 
-sub-skip : tie.Need-overflow-sub-skip invariant_loop decreases_loop
-sub-skip c = omega arith
+overflow_sub-skip : tie.Need-overflow_sub-skip invariant_loop decreases_loop
+overflow_sub-skip c = omega arith
 
-add-i : tie.Need-overflow-add-i invariant_loop decreases_loop
-add-i c = omega arith
+overflow_add-i : tie.Need-overflow_add-i invariant_loop decreases_loop
+overflow_add-i c = omega arith
 
-loop-less : tie.Need-loop-smaller invariant_loop decreases_loop
-loop-less c = omega arith
+loop-i-smaller-then-skip-gt0 : tie.Need-loop-i-smaller-then-skip-gt0 invariant_loop decreases_loop
+loop-i-smaller-then-skip-gt0 c = omega arith
 
-loop-again : tie.Need-loop-preserved invariant_loop decreases_loop
-loop-again c = checking_skip c.before.before.before.before.args.bytes.now c.before.before.loop.skip c.before.before.loop.under c.before.before.loop.structs c.before.before.loop.functions c.before.before.loop.i c.before.before.loop.invariant c.before.loop-test.true c.if1.true
+loop-i-preserved-then-skip-gt0 : tie.Need-loop-i-preserved-then-skip-gt0 invariant_loop decreases_loop
+loop-i-preserved-then-skip-gt0 c = checking_skip c.args.bytes.now c.loop-i.skip c.loop-i.under c.loop-i.structs c.loop-i.functions c.loop-i.i c.loop-i.invariant c.loop-i-test.true c.if-skip-gt0.true
 
-byte-at-requires : tie.Need-byte-at-requires invariant_loop decreases_loop
-byte-at-requires c κs = search rules
+byte_at-command-requires : tie.Need-byte_at-command-requires invariant_loop decreases_loop
+byte_at-command-requires c κs = search rules
 
-sub-left : tie.Need-overflow-sub-left invariant_loop decreases_loop
-sub-left c = omega arith
+overflow_sub-left : tie.Need-overflow_sub-left invariant_loop decreases_loop
+overflow_sub-left c = omega arith
 
-sub-left-2 : tie.Need-overflow-sub-left-2 invariant_loop decreases_loop
-sub-left-2 c = omega arith
+overflow_sub-left-else-skip-gt0 : tie.Need-overflow_sub-left-else-skip-gt0 invariant_loop decreases_loop
+overflow_sub-left-else-skip-gt0 c = omega arith
 
-returns : tie.Need-returns invariant_loop decreases_loop
-returns c = checking_zero c.before.before.before.before.before.before.args.bytes.now c.before.before.before.before.loop.skip c.before.before.before.before.loop.under c.before.before.before.before.loop.structs c.before.before.before.before.loop.functions c.before.before.before.before.loop.i c.before.before.before.before.loop.invariant c.before.before.before.loop-test.true (omega arith) (sym c.before.byte_at.ensures.is ∙ c.if2.true)
+returns-then-command-eq0 : tie.Need-returns-then-command-eq0 invariant_loop decreases_loop
+returns-then-command-eq0 c = checking_zero c.args.bytes.now c.loop-i.skip c.loop-i.under c.loop-i.structs c.loop-i.functions c.loop-i.i c.loop-i.invariant c.loop-i-test.true (omega arith) (sym c.byte_at-command.ensures.is ∙ c.if-command-eq0.true)
 
-add-byte-at : tie.Need-overflow-add-byte-at invariant_loop decreases_loop
-add-byte-at c = omega arith
+overflow_add-i-else-skip-gt0 : tie.Need-overflow_add-i-else-skip-gt0 invariant_loop decreases_loop
+overflow_add-i-else-skip-gt0 c = omega arith
 
-byte-at-requires-2 : tie.Need-byte-at-requires-2 invariant_loop decreases_loop
-byte-at-requires-2 c κs = search rules
+byte_at-first-requires : tie.Need-byte_at-first-requires invariant_loop decreases_loop
+byte_at-first-requires c κs = search rules
 
 allowed-requires : tie.Need-allowed-requires invariant_loop decreases_loop
 allowed-requires c κs = search rules
 
-returns-2 : tie.Need-returns-2 invariant_loop decreases_loop
-returns-2 c = checking_refused c.before.before.before.before.before.before.before.before.before.args.bytes.now c.before.before.before.before.before.before.before.loop.skip c.before.before.before.before.before.before.before.loop.under c.before.before.before.before.before.before.before.loop.structs c.before.before.before.before.before.before.before.loop.functions c.before.before.before.before.before.before.before.loop.i c.before.before.before.before.before.before.before.loop.invariant c.before.before.before.before.before.before.loop-test.true (omega arith) c.before.before.before.before.byte_at.result c.before.before.byte-at2.result c.before.before.before.before.byte_at.ensures.is c.before.before.byte-at2.ensures.is c.before.before.before.if2.false (sym c.before.allowed.ensures ∙ not-true c.before.allowed.result c.if3.true)
+returns-then-not-allowed : tie.Need-returns-then-not-allowed invariant_loop decreases_loop
+returns-then-not-allowed c = checking_refused c.args.bytes.now c.loop-i.skip c.loop-i.under c.loop-i.structs c.loop-i.functions c.loop-i.i c.loop-i.invariant c.loop-i-test.true (omega arith) c.byte_at-command.result c.byte_at-first.result c.byte_at-command.ensures.is c.byte_at-first.ensures.is c.if-command-eq0.false (sym c.allowed.ensures ∙ not-true c.allowed.result c.if-not-allowed.true-raw)
 
-operand-bytes-requires : tie.Need-operand-bytes-requires invariant_loop decreases_loop
-operand-bytes-requires c κs = search rules
+operand_bytes-skip-requires : tie.Need-operand_bytes-skip-requires invariant_loop decreases_loop
+operand_bytes-skip-requires c κs = search rules
 
-section-of-requires : tie.Need-section-of-requires invariant_loop decreases_loop
-section-of-requires c κs = search rules
+section_of-under-requires : tie.Need-section_of-under-requires invariant_loop decreases_loop
+section_of-under-requires c κs = search rules
 
-counted-requires : tie.Need-counted-requires invariant_loop decreases_loop
-counted-requires c κs = omega (arith, c.before.before.before.before.before.before.before.before.before.loop.invariant.structs)
+counted-structs-requires : tie.Need-counted-structs-requires invariant_loop decreases_loop
+counted-structs-requires c κs = omega (arith, c.loop-i.invariant.structs)
 
-counted-requires-2 : tie.Need-counted-requires-2 invariant_loop decreases_loop
-counted-requires-2 c κs = omega (arith, c.before.before.before.before.before.before.before.before.before.before.loop.invariant.functions)
+counted-functions-requires : tie.Need-counted-functions-requires invariant_loop decreases_loop
+counted-functions-requires c κs = omega (arith, c.loop-i.invariant.functions)
 
-add-i-2 : tie.Need-overflow-add-i-2 invariant_loop decreases_loop
-add-i-2 c = omega arith
+overflow_add-i-else-skip-gt0-2 : tie.Need-overflow_add-i-else-skip-gt0-2 invariant_loop decreases_loop
+overflow_add-i-else-skip-gt0-2 c = omega arith
 
-loop-less-2 : tie.Need-loop-smaller-2 invariant_loop decreases_loop
-loop-less-2 c = omega arith
+loop-i-smaller : tie.Need-loop-i-smaller invariant_loop decreases_loop
+loop-i-smaller c = omega arith
 
-loop-again-2 : tie.Need-loop-preserved-2 invariant_loop decreases_loop
-loop-again-2 c = rw (c.before.before.before.operand-bytes.ensures, c.before.before.section-of.ensures, c.before.counted.ensures, c.counted2.ensures) (checking_allowed c.before.before.before.before.before.before.before.before.before.before.before.before.before.args.bytes.now c.before.before.before.before.before.before.before.before.before.before.before.loop.skip c.before.before.before.before.before.before.before.before.before.before.before.loop.under c.before.before.before.before.before.before.before.before.before.before.before.loop.structs c.before.before.before.before.before.before.before.before.before.before.before.loop.functions c.before.before.before.before.before.before.before.before.before.before.before.loop.i c.before.before.before.before.before.before.before.before.before.before.before.loop.invariant c.before.before.before.before.before.before.before.before.before.before.loop-test.true (omega arith) c.before.before.before.before.before.before.before.before.byte_at.result c.before.before.before.before.before.before.byte-at2.result c.before.before.before.before.before.before.before.before.byte_at.ensures.is c.before.before.before.before.before.before.byte-at2.ensures.is c.before.before.before.before.before.before.before.if2.false (sym c.before.before.before.before.before.allowed.ensures ∙ not-false c.before.before.before.before.before.allowed.result c.before.before.before.before.if3.false))
+loop-i-preserved : tie.Need-loop-i-preserved invariant_loop decreases_loop
+loop-i-preserved c = rw (c.operand_bytes-skip.ensures, c.section_of-under.ensures, c.counted-structs.ensures, c.counted-functions.ensures) (checking_allowed c.args.bytes.now c.loop-i.skip c.loop-i.under c.loop-i.structs c.loop-i.functions c.loop-i.i c.loop-i.invariant c.loop-i-test.true (omega arith) c.byte_at-command.result c.byte_at-first.result c.byte_at-command.ensures.is c.byte_at-first.ensures.is c.if-command-eq0.false (sym c.allowed.ensures ∙ not-false c.allowed.result c.if-not-allowed.false-raw))
 
-returns-3 : tie.Need-returns-3 invariant_loop decreases_loop
-returns-3 c = checking_end c.before.before.before.args.bytes.now c.before.loop.skip c.before.loop.under c.before.loop.structs c.before.loop.functions c.before.loop.i c.before.loop.invariant c.loop-test.false
+returns : tie.Need-returns invariant_loop decreases_loop
+returns c = checking_end c.args.bytes.now c.loop-i.skip c.loop-i.under c.loop-i.structs c.loop-i.functions c.loop-i.i c.loop-i.invariant c.loop-i-test.false
 
 pub is_layout_spec : {M : Type 1} → statement M
 is_layout_spec =
@@ -83,24 +83,24 @@ is_layout_spec =
     (tie.spec
     invariant_loop
     decreases_loop
-    loop-holds
-    sub-skip
-    add-i
-    loop-less
-    loop-again
-    byte-at-requires
-    sub-left
-    sub-left-2
-    returns
-    add-byte-at
-    byte-at-requires-2
+    loop-i-init
+    overflow_sub-skip
+    overflow_add-i
+    loop-i-smaller-then-skip-gt0
+    loop-i-preserved-then-skip-gt0
+    byte_at-command-requires
+    overflow_sub-left
+    overflow_sub-left-else-skip-gt0
+    returns-then-command-eq0
+    overflow_add-i-else-skip-gt0
+    byte_at-first-requires
     allowed-requires
-    returns-2
-    operand-bytes-requires
-    section-of-requires
-    counted-requires
-    counted-requires-2
-    add-i-2
-    loop-less-2
-    loop-again-2
-    returns-3)
+    returns-then-not-allowed
+    operand_bytes-skip-requires
+    section_of-under-requires
+    counted-structs-requires
+    counted-functions-requires
+    overflow_add-i-else-skip-gt0-2
+    loop-i-smaller
+    loop-i-preserved
+    returns)

@@ -12,45 +12,45 @@ use borrow.Author.Rules.{rules}
 use Rattle.layout.proofs.read_layout.Statement.{statement}
 use Rattle.layout.proofs.read_layout.Tie as tie
 
+returns-then-table-lt-TABLE : tie.Need-returns-then-table-lt-TABLE
+returns-then-table-lt-TABLE c = read_refused c.args.bytes.now c.args.table.now (rw (lt-leb 514 (length c.args.table.now) c.if-table-lt-TABLE.true) (and-false (is_layout c.args.bytes.now)))
+
+is_layout-requires : tie.Need-is_layout-requires
+is_layout-requires c κs = search rules
+
+returns-then-not-is_layout : tie.Need-returns-then-not-is_layout
+returns-then-not-is_layout c = read_refused c.args.bytes.now c.args.table.now (rw (sym c.is_layout.ensures ∙ not-true c.is_layout.result c.if-not-is_layout.true-raw))
+
+write_starts-structs-requires : tie.Need-write_starts-structs-requires
+write_starts-structs-requires c κs = omega (arith, structs_most c.args.bytes.now (sym c.is_layout.ensures ∙ not-false c.is_layout.result c.if-not-is_layout.false-raw), c.if-table-lt-TABLE.false)
+
+write_starts-functions-requires : tie.Need-write_starts-functions-requires
+write_starts-functions-requires c κs = omega (arith, functions_most c.args.bytes.now (sym c.is_layout.ensures ∙ not-false c.is_layout.result c.if-not-is_layout.false-raw), c.if-table-lt-TABLE.false, ap length c.write_starts-structs.ensures.1, length-sets c.args.table.now 0 (starts 1 c.args.bytes.now))
+
+bounds-table-512 : tie.Need-bounds-table-512
+bounds-table-512 c = search rules
+
+bounds-table-513 : tie.Need-bounds-table-513
+bounds-table-513 c = search rules
+
+shape_of-table : tie.Need-shape_of-table
+unfolding table_of
+shape_of-table c = rw (c.write_starts-functions.ensures.1, c.write_starts-structs.ensures.1, c.write_starts-structs.ensures.0, c.write_starts-functions.ensures.0) (table-len c.args.bytes.now c.args.table.now)
+
 returns : tie.Need-returns
-returns c = read_refused c.before.before.before.args.bytes.now c.before.before.before.args.table.now (rw (lt-leb 514 (length c.before.before.before.args.table.now) c.if1.true) (and-false (is_layout c.before.before.before.args.bytes.now)))
-
-is-layout-requires : tie.Need-is-layout-requires
-is-layout-requires c κs = search rules
-
-returns-2 : tie.Need-returns-2
-returns-2 c = read_refused c.before.before.before.before.before.args.bytes.now c.before.before.before.before.before.args.table.now (rw (sym c.before.is-layout.ensures ∙ not-true c.before.is-layout.result c.if2.true))
-
-write-starts-requires : tie.Need-write-starts-requires
-write-starts-requires c κs = omega (arith, structs_most c.before.before.before.before.before.before.args.bytes.now (sym c.before.before.is-layout.ensures ∙ not-false c.before.before.is-layout.result c.before.if2.false), c.before.before.before.if1.false)
-
-write-starts-requires-2 : tie.Need-write-starts-requires-2
-write-starts-requires-2 c κs = omega (arith, functions_most c.before.before.before.before.before.before.before.before.before.before.args.bytes.now (sym c.before.before.before.before.before.before.is-layout.ensures ∙ not-false c.before.before.before.before.before.before.is-layout.result c.before.before.before.before.before.if2.false), c.before.before.before.before.before.before.before.if1.false, ap length c.before.before.before.write-starts.ensures.1, length-sets c.before.before.before.before.before.before.before.before.before.before.args.table.now 0 (starts 1 c.before.before.before.before.before.before.before.before.before.before.args.bytes.now))
-
-slice-write-table : tie.Need-slice-write-table
-slice-write-table c = search rules
-
-slice-write-table-2 : tie.Need-slice-write-table-2
-slice-write-table-2 c = search rules
-
-same_length : tie.Need-same-length
 unfolding table_of
-same_length c = rw (c.before.before.write-starts2.ensures.1, c.before.before.before.before.before.before.write-starts.ensures.1, c.before.before.before.before.before.before.write-starts.ensures.0, c.before.before.write-starts2.ensures.0) (table-len c.before.before.before.before.before.before.before.before.before.before.before.before.before.args.bytes.now c.before.before.before.before.before.before.before.before.before.before.before.before.before.args.table.now)
-
-returns-3 : tie.Need-returns-3
-unfolding table_of
-returns-3 c = rw (c.before.before.write-starts2.ensures.1, c.before.before.before.before.before.before.write-starts.ensures.1, c.before.before.before.before.before.before.write-starts.ensures.0, c.before.before.write-starts2.ensures.0) (read_accepted c.before.before.before.before.before.before.before.before.before.before.before.before.before.args.bytes.now c.before.before.before.before.before.before.before.before.before.before.before.before.before.args.table.now (sym c.before.before.before.before.before.before.before.before.before.is-layout.ensures ∙ not-false c.before.before.before.before.before.before.before.before.before.is-layout.result c.before.before.before.before.before.before.before.before.if2.false) c.before.before.before.before.before.before.before.before.before.before.if1.false)
+returns c = rw (c.write_starts-functions.ensures.1, c.write_starts-structs.ensures.1, c.write_starts-structs.ensures.0, c.write_starts-functions.ensures.0) (read_accepted c.args.bytes.now c.args.table.now (sym c.is_layout.ensures ∙ not-false c.is_layout.result c.if-not-is_layout.false-raw) c.if-table-lt-TABLE.false)
 
 pub read_layout_spec : {M : Type 1} → statement M
 read_layout_spec =
     tie.close
     (tie.spec
-    returns
-    is-layout-requires
-    returns-2
-    write-starts-requires
-    write-starts-requires-2
-    slice-write-table
-    slice-write-table-2
-    same_length
-    returns-3)
+    returns-then-table-lt-TABLE
+    is_layout-requires
+    returns-then-not-is_layout
+    write_starts-structs-requires
+    write_starts-functions-requires
+    bounds-table-512
+    bounds-table-513
+    shape_of-table
+    returns)

@@ -6,62 +6,62 @@ use lib.ListN.{length}
 use Rattle.layout.proofs.write_starts.Statement.{statement}
 use Rattle.layout.proofs.write_starts.Tie as tie
 
-abbrev invariant_loop : tie.invariant_loop
+abbrev invariant_loop : tie.invariant-loop-i
 invariant_loop bytes table₀ begins base skip₀ count₀ i₀ table skip count i = Writing bytes table₀ begins base skip count table i
 
-abbrev decreases_loop : tie.decreases_loop
+abbrev decreases_loop : tie.decreases-loop-i
 decreases_loop bytes table₀ begins base skip₀ count₀ i₀ table skip count i = length bytes - i
 
-loop-holds : tie.Need-loop-init invariant_loop decreases_loop
-loop-holds c = writing_start c.before.before.args.bytes.now c.before.before.args.table.now c.before.before.args.begins c.before.before.args.base
+loop-i-init : tie.Need-loop-i-init invariant_loop decreases_loop
+loop-i-init c = writing_start c.args.bytes.now c.args.table.now c.args.begins c.args.base
 
-byte-at-requires : tie.Need-byte-at-requires invariant_loop decreases_loop
-byte-at-requires c κs = search rules
+byte_at-command-requires : tie.Need-byte_at-command-requires invariant_loop decreases_loop
+byte_at-command-requires c κs = search rules
 
-add-i : tie.Need-overflow-add-i invariant_loop decreases_loop
-add-i c = omega arith
+overflow_add-i : tie.Need-overflow_add-i invariant_loop decreases_loop
+overflow_add-i c = omega arith
 
-sub-skip : tie.Need-overflow-sub-skip invariant_loop decreases_loop
-sub-skip c = omega arith
+overflow_sub-skip : tie.Need-overflow_sub-skip invariant_loop decreases_loop
+overflow_sub-skip c = omega arith
 
-loop-less : tie.Need-loop-smaller invariant_loop decreases_loop
-loop-less c = omega arith
+loop-i-smaller-then-skip-gt0 : tie.Need-loop-i-smaller-then-skip-gt0 invariant_loop decreases_loop
+loop-i-smaller-then-skip-gt0 c = omega arith
 
-loop-again : tie.Need-loop-preserved invariant_loop decreases_loop
-loop-again c = writing_skip c.before.before.before.before.before.before.args.bytes.now c.before.before.before.before.before.before.args.table.now c.before.before.before.before.before.before.args.begins c.before.before.before.before.before.before.args.base c.before.before.before.loop.skip c.before.before.before.loop.count c.before.before.before.loop.table c.before.before.before.loop.i c.before.before.before.loop.invariant c.before.before.loop-test.true c.if1.true
+loop-i-preserved-then-skip-gt0 : tie.Need-loop-i-preserved-then-skip-gt0 invariant_loop decreases_loop
+loop-i-preserved-then-skip-gt0 c = writing_skip c.args.bytes.now c.args.table.now c.args.begins c.args.base c.loop-i.skip c.loop-i.count c.loop-i.table c.loop-i.i c.loop-i.invariant c.loop-i-test.true c.if-skip-gt0.true
 
-operand-bytes-requires : tie.Need-operand-bytes-requires invariant_loop decreases_loop
-operand-bytes-requires c κs = search rules
+operand_bytes-skip-requires : tie.Need-operand_bytes-skip-requires invariant_loop decreases_loop
+operand_bytes-skip-requires c κs = search rules
 
-add-table : tie.Need-overflow-add-table invariant_loop decreases_loop
-add-table c = omega (arith, writing_room c.before.before.before.before.before.before.before.before.args.bytes.now c.before.before.before.before.before.before.before.before.args.table.now c.before.before.before.before.before.before.before.before.args.begins c.before.before.before.before.before.before.before.before.args.base c.before.before.before.before.before.loop.skip c.before.before.before.before.before.loop.count c.before.before.before.before.before.loop.table c.before.before.before.before.before.loop.i c.before.before.before.before.before.loop.invariant c.before.before.before.before.loop-test.true (omega arith) c.before.before.before.byte_at.result c.before.before.before.byte_at.ensures.is c.if2.true c.before.before.before.before.before.before.before.before.requires, c.before.before.before.before.before.loop.invariant.len)
+overflow_add-table : tie.Need-overflow_add-table invariant_loop decreases_loop
+overflow_add-table c = omega (arith, writing_room c.args.bytes.now c.args.table.now c.args.begins c.args.base c.loop-i.skip c.loop-i.count c.loop-i.table c.loop-i.i c.loop-i.invariant c.loop-i-test.true (omega arith) c.byte_at-command.result c.byte_at-command.ensures.is c.if-command-begins.true c.requires, c.loop-i.invariant.len)
 
-mul-table : tie.Need-overflow-mul-table invariant_loop decreases_loop
-mul-table c = omega (arith, writing_room c.before.before.before.before.before.before.before.before.args.bytes.now c.before.before.before.before.before.before.before.before.args.table.now c.before.before.before.before.before.before.before.before.args.begins c.before.before.before.before.before.before.before.before.args.base c.before.before.before.before.before.loop.skip c.before.before.before.before.before.loop.count c.before.before.before.before.before.loop.table c.before.before.before.before.before.loop.i c.before.before.before.before.before.loop.invariant c.before.before.before.before.loop-test.true (omega arith) c.before.before.before.byte_at.result c.before.before.before.byte_at.ensures.is c.if2.true c.before.before.before.before.before.before.before.before.requires, c.before.before.before.before.before.loop.invariant.len)
+offset_bounds-table-base : tie.Need-offset_bounds-table-base invariant_loop decreases_loop
+offset_bounds-table-base c = omega (arith, writing_room c.args.bytes.now c.args.table.now c.args.begins c.args.base c.loop-i.skip c.loop-i.count c.loop-i.table c.loop-i.i c.loop-i.invariant c.loop-i-test.true (omega arith) c.byte_at-command.result c.byte_at-command.ensures.is c.if-command-begins.true c.requires, c.loop-i.invariant.len)
 
-slice-write-table : tie.Need-slice-write-table invariant_loop decreases_loop
-slice-write-table c = writing_room c.before.before.before.before.before.before.before.before.args.bytes.now c.before.before.before.before.before.before.before.before.args.table.now c.before.before.before.before.before.before.before.before.args.begins c.before.before.before.before.before.before.before.before.args.base c.before.before.before.before.before.loop.skip c.before.before.before.before.before.loop.count c.before.before.before.before.before.loop.table c.before.before.before.before.before.loop.i c.before.before.before.before.before.loop.invariant c.before.before.before.before.loop-test.true (omega arith) c.before.before.before.byte_at.result c.before.before.before.byte_at.ensures.is c.if2.true c.before.before.before.before.before.before.before.before.requires
+bounds-table-base : tie.Need-bounds-table-base invariant_loop decreases_loop
+bounds-table-base c = writing_room c.args.bytes.now c.args.table.now c.args.begins c.args.base c.loop-i.skip c.loop-i.count c.loop-i.table c.loop-i.i c.loop-i.invariant c.loop-i-test.true (omega arith) c.byte_at-command.result c.byte_at-command.ensures.is c.if-command-begins.true c.requires
 
-add-count : tie.Need-overflow-add-count invariant_loop decreases_loop
-add-count c = omega (arith, writing_room c.before.before.before.before.before.before.before.before.args.bytes.now c.before.before.before.before.before.before.before.before.args.table.now c.before.before.before.before.before.before.before.before.args.begins c.before.before.before.before.before.before.before.before.args.base c.before.before.before.before.before.loop.skip c.before.before.before.before.before.loop.count c.before.before.before.before.before.loop.table c.before.before.before.before.before.loop.i c.before.before.before.before.before.loop.invariant c.before.before.before.before.loop-test.true (omega arith) c.before.before.before.byte_at.result c.before.before.before.byte_at.ensures.is c.if2.true c.before.before.before.before.before.before.before.before.requires, c.before.before.before.before.before.loop.invariant.len)
+overflow_add-count : tie.Need-overflow_add-count invariant_loop decreases_loop
+overflow_add-count c = omega (arith, writing_room c.args.bytes.now c.args.table.now c.args.begins c.args.base c.loop-i.skip c.loop-i.count c.loop-i.table c.loop-i.i c.loop-i.invariant c.loop-i-test.true (omega arith) c.byte_at-command.result c.byte_at-command.ensures.is c.if-command-begins.true c.requires, c.loop-i.invariant.len)
 
-loop-less-2 : tie.Need-loop-smaller-2 invariant_loop decreases_loop
-loop-less-2 c = omega arith
+loop-i-smaller-then-command-begins : tie.Need-loop-i-smaller-then-command-begins invariant_loop decreases_loop
+loop-i-smaller-then-command-begins c = omega arith
 
-loop-again-2 : tie.Need-loop-preserved-2 invariant_loop decreases_loop
-loop-again-2 c = rw c.before.operand-bytes.ensures (writing_begun c.before.before.before.before.before.before.before.before.args.bytes.now c.before.before.before.before.before.before.before.before.args.table.now c.before.before.before.before.before.before.before.before.args.begins c.before.before.before.before.before.before.before.before.args.base c.before.before.before.before.before.loop.skip c.before.before.before.before.before.loop.count c.before.before.before.before.before.loop.table c.before.before.before.before.before.loop.i c.before.before.before.before.before.loop.invariant c.before.before.before.before.loop-test.true (omega arith) c.before.before.before.byte_at.result c.before.before.before.byte_at.ensures.is c.if2.true)
+loop-i-preserved-then-command-begins : tie.Need-loop-i-preserved-then-command-begins invariant_loop decreases_loop
+loop-i-preserved-then-command-begins c = rw c.operand_bytes-skip.ensures (writing_begun c.args.bytes.now c.args.table.now c.args.begins c.args.base c.loop-i.skip c.loop-i.count c.loop-i.table c.loop-i.i c.loop-i.invariant c.loop-i-test.true (omega arith) c.byte_at-command.result c.byte_at-command.ensures.is c.if-command-begins.true)
 
-loop-less-3 : tie.Need-loop-smaller-3 invariant_loop decreases_loop
-loop-less-3 c = omega arith
+loop-i-smaller : tie.Need-loop-i-smaller invariant_loop decreases_loop
+loop-i-smaller c = omega arith
 
-loop-again-3 : tie.Need-loop-preserved-3 invariant_loop decreases_loop
-loop-again-3 c = rw c.before.operand-bytes.ensures (writing_other c.before.before.before.before.before.before.before.before.args.bytes.now c.before.before.before.before.before.before.before.before.args.table.now c.before.before.before.before.before.before.before.before.args.begins c.before.before.before.before.before.before.before.before.args.base c.before.before.before.before.before.loop.skip c.before.before.before.before.before.loop.count c.before.before.before.before.before.loop.table c.before.before.before.before.before.loop.i c.before.before.before.before.before.loop.invariant c.before.before.before.before.loop-test.true (omega arith) c.before.before.before.byte_at.result c.before.before.before.byte_at.ensures.is c.if2.false)
+loop-i-preserved : tie.Need-loop-i-preserved invariant_loop decreases_loop
+loop-i-preserved c = rw c.operand_bytes-skip.ensures (writing_other c.args.bytes.now c.args.table.now c.args.begins c.args.base c.loop-i.skip c.loop-i.count c.loop-i.table c.loop-i.i c.loop-i.invariant c.loop-i-test.true (omega arith) c.byte_at-command.result c.byte_at-command.ensures.is c.if-command-begins.false)
 
-same_length : tie.Need-same-length invariant_loop decreases_loop
-same_length c = c.before.loop.invariant.len
+shape_of-table : tie.Need-shape_of-table invariant_loop decreases_loop
+shape_of-table c = c.loop-i.invariant.len
 
 returns : tie.Need-returns invariant_loop decreases_loop
-returns c = (writing_count c.before.before.before.before.args.bytes.now c.before.before.before.before.args.table.now c.before.before.before.before.args.begins c.before.before.before.before.args.base c.before.loop.skip c.before.loop.count c.before.loop.table c.before.loop.i c.before.loop.invariant c.loop-test.false, writing_end c.before.before.before.before.args.bytes.now c.before.before.before.before.args.table.now c.before.before.before.before.args.begins c.before.before.before.before.args.base c.before.loop.skip c.before.loop.count c.before.loop.table c.before.loop.i c.before.loop.invariant c.loop-test.false)
+returns c = (writing_count c.args.bytes.now c.args.table.now c.args.begins c.args.base c.loop-i.skip c.loop-i.count c.loop-i.table c.loop-i.i c.loop-i.invariant c.loop-i-test.false, writing_end c.args.bytes.now c.args.table.now c.args.begins c.args.base c.loop-i.skip c.loop-i.count c.loop-i.table c.loop-i.i c.loop-i.invariant c.loop-i-test.false)
 
 pub write_starts_spec : {M : Type 1} → statement M
 write_starts_spec =
@@ -69,20 +69,20 @@ write_starts_spec =
     (tie.spec
     invariant_loop
     decreases_loop
-    loop-holds
-    byte-at-requires
-    add-i
-    sub-skip
-    loop-less
-    loop-again
-    operand-bytes-requires
-    add-table
-    mul-table
-    slice-write-table
-    add-count
-    loop-less-2
-    loop-again-2
-    loop-less-3
-    loop-again-3
-    same_length
+    loop-i-init
+    byte_at-command-requires
+    overflow_add-i
+    overflow_sub-skip
+    loop-i-smaller-then-skip-gt0
+    loop-i-preserved-then-skip-gt0
+    operand_bytes-skip-requires
+    overflow_add-table
+    offset_bounds-table-base
+    bounds-table-base
+    overflow_add-count
+    loop-i-smaller-then-command-begins
+    loop-i-preserved-then-command-begins
+    loop-i-smaller
+    loop-i-preserved
+    shape_of-table
     returns)

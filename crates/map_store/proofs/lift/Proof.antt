@@ -4,47 +4,47 @@ use Rattle.map_store.proofs.Steps.{Lifting, lift_start, lift_step, lift_end}
 use Rattle.map_store.proofs.lift.Statement.{statement}
 use Rattle.map_store.proofs.lift.Tie as tie
 
-abbrev invariant_loop : tie.invariant_loop
+abbrev invariant_loop : tie.invariant-loop-j
 invariant_loop cells₀ a b w j₀ cells j = Lifting cells₀ cells a b w j
 
-abbrev decreases_loop : tie.decreases_loop
+abbrev decreases_loop : tie.decreases-loop-j
 decreases_loop cells₀ a b w j₀ cells j = j
 
-loop-holds : tie.Need-loop-init invariant_loop decreases_loop
-loop-holds c = lift_start _ _ _ _
+loop-j-init : tie.Need-loop-j-init invariant_loop decreases_loop
+loop-j-init c = lift_start _ _ _ _
 
-sub-j : tie.Need-overflow-sub-j invariant_loop decreases_loop
-sub-j c = omega (arith, c.loop-test.true)
+overflow_sub-j : tie.Need-overflow_sub-j invariant_loop decreases_loop
+overflow_sub-j c = omega (arith, c.loop-j-test.true)
 
-add-x : tie.Need-overflow-add-x invariant_loop decreases_loop
-add-x c = omega (arith, c.before.before.requires, c.before.before.well-formed, c.before.loop.invariant.within)
+overflow_add-x : tie.Need-overflow_add-x invariant_loop decreases_loop
+overflow_add-x c = omega (arith, c.requires, c.well_formed, c.loop-j.invariant.within)
 
-mul-x : tie.Need-overflow-mul-x invariant_loop decreases_loop
-mul-x c = omega (arith, c.before.before.requires, c.before.before.well-formed, c.before.loop.invariant.within, c.loop-test.true)
+offset_bounds-cells-a : tie.Need-offset_bounds-cells-a invariant_loop decreases_loop
+offset_bounds-cells-a c = omega (arith, c.requires, c.well_formed, c.loop-j.invariant.within, c.loop-j-test.true)
 
-slice-read-x : tie.Need-slice-read-x invariant_loop decreases_loop
-slice-read-x c = omega (arith, c.before.before.before.requires, c.before.before.loop.invariant.within, c.before.before.loop.invariant.same_length, c.before.loop-test.true)
+bounds-cells-a : tie.Need-bounds-cells-a invariant_loop decreases_loop
+bounds-cells-a c = omega (arith, c.requires, c.loop-j.invariant.within, c.loop-j.invariant.same_length, c.loop-j-test.true)
 
-add-cells : tie.Need-overflow-add-cells invariant_loop decreases_loop
-add-cells c = omega (arith, c.before.before.before.requires, c.before.before.before.well-formed, c.before.before.loop.invariant.within)
+overflow_add-cells : tie.Need-overflow_add-cells invariant_loop decreases_loop
+overflow_add-cells c = omega (arith, c.requires, c.well_formed, c.loop-j.invariant.within)
 
-mul-cells : tie.Need-overflow-mul-cells invariant_loop decreases_loop
-mul-cells c = omega (arith, c.before.before.before.requires, c.before.before.before.well-formed, c.before.before.loop.invariant.within, c.before.loop-test.true)
+offset_bounds-cells-b : tie.Need-offset_bounds-cells-b invariant_loop decreases_loop
+offset_bounds-cells-b c = omega (arith, c.requires, c.well_formed, c.loop-j.invariant.within, c.loop-j-test.true)
 
-slice-write-cells : tie.Need-slice-write-cells invariant_loop decreases_loop
-slice-write-cells c = omega (arith, c.before.before.before.requires, c.before.before.loop.invariant.within, c.before.before.loop.invariant.same_length, c.before.loop-test.true)
+bounds-cells-b : tie.Need-bounds-cells-b invariant_loop decreases_loop
+bounds-cells-b c = omega (arith, c.requires, c.loop-j.invariant.within, c.loop-j.invariant.same_length, c.loop-j-test.true)
 
-loop-less : tie.Need-loop-smaller invariant_loop decreases_loop
-loop-less c = omega (arith, c.before.loop-test.true)
+loop-j-smaller : tie.Need-loop-j-smaller invariant_loop decreases_loop
+loop-j-smaller c = omega (arith, c.loop-j-test.true)
 
-loop-again : tie.Need-loop-preserved invariant_loop decreases_loop
-loop-again c = lift_step _ _ _ _ _ _ (c.before.before.before.requires.0) (c.before.before.before.requires.1) (c.before.loop-test.true) (c.before.before.loop.invariant)
+loop-j-preserved : tie.Need-loop-j-preserved invariant_loop decreases_loop
+loop-j-preserved c = lift_step _ _ _ _ _ _ c.requires.0 c.requires.1 c.loop-j-test.true c.loop-j.invariant
 
-same_length : tie.Need-same-length invariant_loop decreases_loop
-same_length c = c.before.loop.invariant.same_length
+shape_of-cells : tie.Need-shape_of-cells invariant_loop decreases_loop
+shape_of-cells c = c.loop-j.invariant.same_length
 
 returns : tie.Need-returns invariant_loop decreases_loop
-returns c = lift_end _ _ _ _ _ _ (c.before.loop.invariant) (c.loop-test.false)
+returns c = lift_end _ _ _ _ _ _ c.loop-j.invariant c.loop-j-test.false
 
 pub lift_spec : {M : Type 1} → statement M
 lift_spec =
@@ -52,15 +52,15 @@ lift_spec =
     (tie.spec
     invariant_loop
     decreases_loop
-    loop-holds
-    sub-j
-    add-x
-    mul-x
-    slice-read-x
-    add-cells
-    mul-cells
-    slice-write-cells
-    loop-less
-    loop-again
-    same_length
+    loop-j-init
+    overflow_sub-j
+    overflow_add-x
+    offset_bounds-cells-a
+    bounds-cells-a
+    overflow_add-cells
+    offset_bounds-cells-b
+    bounds-cells-b
+    loop-j-smaller
+    loop-j-preserved
+    shape_of-cells
     returns)

@@ -2,28 +2,35 @@ use Rattle.map_store.proofs.Changes.{reindexed_none, reindexed_built, reindexed_
 use Rattle.map_store.proofs.reindex.Statement.{statement}
 use Rattle.map_store.proofs.reindex.Tie as tie
 
-returns : tie.Need-returns
-returns c = reindexed_none _ _ _ _ (c.if1.true)
+returns-then-n-eq0 : tie.Need-returns-then-n-eq0
+returns-then-n-eq0 c = reindexed_none _ _ _ _ c.if-n-eq0.true
 
 lift-requires : tie.Need-lift-requires
-lift-requires c κs = (c.before.before.before.before.before.requires.grows, (c.before.before.before.before.before.requires.able (c.before.before.before.if1.false)).index)
+lift-requires c κs = (c.requires.grows, (c.requires.able c.if-n-eq0.false).index)
 
-same_length : tie.Need-same-length
-same_length c = c.before.before.lift.auto.0
+shape_of-cells-then-n-old : tie.Need-shape_of-cells-then-n-old
+shape_of-cells-then-n-old c = c.lift.auto.cells
 
-returns-2 : tie.Need-returns-2
-returns-2 c = reindexed_moved _ _ _ _ _ _ _ (c.before.before.before.before.before.before.before.before.requires) (c.before.before.before.before.before.before.if1.false) (c.before.before.before.before.before.if2.true) (c.before.before.before.before.if3.true) _ (c.before.before.lift.ensures)
+returns-then-n-old : tie.Need-returns-then-n-old
+returns-then-n-old c = reindexed_moved _ _ _ _ _ _ _ c.requires c.if-n-eq0.false c.if-hashed.true c.if-n-old.true _ c.lift.ensures
 
 rebuild-requires : tie.Need-rebuild-requires
-rebuild-requires c κs = c.before.before.before.before.requires.able (c.before.before.if1.false)
+rebuild-requires c κs = c.requires.able c.if-n-eq0.false
 
-same-length-2 : tie.Need-same-length-2
-same-length-2 c = c.before.before.rebuild.auto.0
+shape_of-cells : tie.Need-shape_of-cells
+shape_of-cells c = c.rebuild.auto.cells
 
-returns-3 : tie.Need-returns-3
-returns-3 c = reindexed_built _ _ _ _ _ (c.before.before.before.before.before.if1.false) (c.before.before.rebuild.ensures)
+returns : tie.Need-returns
+returns c = reindexed_built _ _ _ _ _ c.if-n-eq0.false c.rebuild.ensures
 
 pub reindex_spec : {M : Type 1} → statement M
 reindex_spec =
     tie.close
-    (tie.spec returns lift-requires same_length returns-2 rebuild-requires same-length-2 returns-3)
+    (tie.spec
+    returns-then-n-eq0
+    lift-requires
+    shape_of-cells-then-n-old
+    returns-then-n-old
+    rebuild-requires
+    shape_of-cells
+    returns)

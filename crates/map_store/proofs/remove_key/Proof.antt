@@ -8,67 +8,67 @@ use Rattle.map_store.proofs.Removals.{some-live}
 use Rattle.map_store.proofs.remove_key.Statement.{statement}
 use Rattle.map_store.proofs.remove_key.Tie as tie
 
-mul-ib : tie.Need-overflow-mul-ib
-mul-ib c = search rules
+overflow_mul-ib : tie.Need-overflow_mul-ib
+overflow_mul-ib c = search rules
 
-seek-requires : tie.Need-seek-requires
-seek-requires c κs = (c.before.before.before.before.requires.0.indexed (c.before.before.if1.true)).mapped
+seek-sought-requires : tie.Need-seek-sought-requires
+seek-sought-requires c κs = (c.requires.0.indexed c.if-store.true).mapped
 
-enum-known-sought : tie.Need-enum-known-sought
-enum-known-sought c = search rules
+enum_known-sought : tie.Need-enum_known-sought
+enum_known-sought c = search rules
 
-take-requires : tie.Need-take-requires
-take-requires c κs = (take-able _ _ (c.before.before.before.before.before.before.before.before.before.requires.0) (c.before.before.before.before.before.before.before.if1.true), subst (SitsIn _ _ _ _) c.before.before.sought.given.1 c.before.before.before.before.seek.ensures.1)
+take-len-requires : tie.Need-take-len-requires
+take-len-requires c κs = (take-able _ _ c.requires.0 c.if-store.true, subst (SitsIn _ _ _ _) c.in-Here.is c.seek-sought.ensures.1)
 
 lessened-requires : tie.Need-lessened-requires
-lessened-requires c κs = let T = take-able _ _ (c.before.before.before.before.before.before.before.before.before.before.before.before.requires.0) (c.before.before.before.before.before.before.before.before.before.before.if1.true) in some-live _ _ _ _ _ _ _ T.0 T.1 T.2 (subst (SitsIn _ _ _ _) c.before.before.before.before.before.sought.given.1 c.before.before.before.before.before.before.before.seek.ensures.1)
+lessened-requires c κs = let T = take-able _ _ c.requires.0 c.if-store.true in some-live _ _ _ _ _ _ _ T.0 T.1 T.2 (subst (SitsIn _ _ _ _) c.in-Here.is c.seek-sought.ensures.1)
 
-enum_told : tie.Need-enum-told
-enum_told c = search rules
+enum_told-1 : tie.Need-enum_told-1
+enum_told-1 c = search rules
 
-same_length : tie.Need-same-length
-same_length c = search rules
+shape_of-cells-in-Here : tie.Need-shape_of-cells-in-Here
+shape_of-cells-in-Here c = search rules
 
-returns : tie.Need-returns
-returns c = key-found _ _ _ _ _ _ (ap seek_is (sym c.before.before.before.before.before.before.sought.given.1) ∙ c.before.before.before.before.before.before.before.before.seek.ensures.0 ∙ find-by-hash (c.before.before.before.before.before.before.before.before.before.before.before.before.before.args.store) _ (c.before.before.before.before.before.before.before.before.before.before.before.before.before.args.traced) _ _ (c.before.before.before.before.before.before.before.before.before.before.before.if1.true)) _ _ (remove-live _ _ _ _ _ (hashed_already _ _ (c.before.before.before.before.before.before.before.before.before.before.before.before.before.requires.0) (c.before.before.before.before.before.before.before.before.before.before.before.if1.true)) _ (subst (SitsIn _ _ _ _) c.before.before.before.before.before.before.sought.given.1 c.before.before.before.before.before.before.before.before.seek.ensures.1).2 _ _ _ (c.before.before.before.take.ensures) (c.lessened.ensures))
+returns-in-Here : tie.Need-returns-in-Here
+returns-in-Here c = key-found _ _ _ _ _ _ (ap seek_is (sym c.in-Here.is) ∙ c.seek-sought.ensures.0 ∙ find-by-hash c.args.store _ c.args.traced _ _ c.if-store.true) _ _ (remove-live _ _ _ _ _ (hashed_already _ _ c.requires.0 c.if-store.true) _ (subst (SitsIn _ _ _ _) c.in-Here.is c.seek-sought.ensures.1).2 _ _ _ c.take-len.ensures c.lessened.ensures)
 
-same-length-2 : tie.Need-same-length-2
-same-length-2 c = search rules
+shape_of-cells-in-Absent : tie.Need-shape_of-cells-in-Absent
+shape_of-cells-in-Absent c = search rules
 
-returns-2 : tie.Need-returns-2
-returns-2 c = key_absent _ _ _ _ _ (c.before.before.before.before.before.before.before.requires.0) (ap seek_is (sym c.enum_told.given.1) ∙ c.before.before.seek.ensures.0 ∙ find-by-hash (c.before.before.before.before.before.before.before.args.store) _ (c.before.before.before.before.before.before.before.args.traced) _ _ (c.before.before.before.before.before.if1.true))
+returns-in-Absent : tie.Need-returns-in-Absent
+returns-in-Absent c = key_absent _ _ _ _ _ c.requires.0 (ap seek_is (sym c.in-Absent.is) ∙ c.seek-sought.ensures.0 ∙ find-by-hash c.args.store _ c.args.traced _ _ c.if-store.true)
 
-returns-3 : tie.Need-returns-3
-returns-3 c = key_absent _ _ _ _ _ (c.before.before.before.requires.0) (find-traced (c.before.before.before.args.store) c.before.before.before.args.cells.now _ (c.before.before.before.args.hash) (c.before.before.before.args.key) (c.before.if1.false) (c.if2.true))
+returns-then-traced : tie.Need-returns-then-traced
+returns-then-traced c = key_absent _ _ _ _ _ c.requires.0 (find-traced c.args.store c.args.cells.now _ c.args.hash c.args.key c.if-store.false c.if-traced.true)
 
 remove-requires : tie.Need-remove-requires
-remove-requires c κs = (c.before.before.before.before.before.requires.0, rw (key-room (c.before.before.before.before.before.args.store) c.before.before.before.before.before.args.cells.now (c.before.before.before.before.before.args.traced) (c.before.before.before.before.before.args.hash) (c.before.before.before.before.before.args.key) _ (find-place (c.before.before.before.before.before.args.store) c.before.before.before.before.before.args.cells.now _ (c.before.before.before.before.before.args.hash) (c.before.before.before.before.before.args.key) (c.before.before.before.if1.false) (c.before.before.if2.false) (len-small _ _ (c.before.before.before.before.before.requires.0)) (c.before.if3.true))) (c.before.before.before.before.before.requires.1))
+remove-requires c κs = (c.requires.0, rw (key-room c.args.store c.args.cells.now c.args.traced c.args.hash c.args.key _ (find-place c.args.store c.args.cells.now _ c.args.hash c.args.key c.if-store.false c.if-traced.false (len-small _ _ c.requires.0) c.if-key-store.true)) c.requires.1)
 
-same-length-3 : tie.Need-same-length-3
-same-length-3 c = search rules
+shape_of-cells-then-key-store : tie.Need-shape_of-cells-then-key-store
+shape_of-cells-then-key-store c = search rules
 
-returns-4 : tie.Need-returns-4
-returns-4 c = key-found _ _ _ _ _ _ (find-place (c.before.before.before.before.before.before.before.before.args.store) c.before.before.before.before.before.before.before.before.args.cells.now _ (c.before.before.before.before.before.before.before.before.args.hash) (c.before.before.before.before.before.before.before.before.args.key) (c.before.before.before.before.before.before.if1.false) (c.before.before.before.before.before.if2.false) (len-small _ _ (c.before.before.before.before.before.before.before.before.requires.0)) (c.before.before.before.before.if3.true)) _ _ (c.before.before.remove.ensures)
+returns-then-key-store : tie.Need-returns-then-key-store
+returns-then-key-store c = key-found _ _ _ _ _ _ (find-place c.args.store c.args.cells.now _ c.args.hash c.args.key c.if-store.false c.if-traced.false (len-small _ _ c.requires.0) c.if-key-store.true) _ _ c.remove.ensures
 
-returns-5 : tie.Need-returns-5
-returns-5 c = key_absent _ _ _ _ _ (c.before.before.before.before.requires.0) (find-no-place (c.before.before.before.before.args.store) c.before.before.before.before.args.cells.now _ (c.before.before.before.before.args.hash) (c.before.before.before.before.args.key) (c.before.before.if1.false) (c.before.if2.false) (c.if3.false))
+returns : tie.Need-returns
+returns c = key_absent _ _ _ _ _ c.requires.0 (find-no-place c.args.store c.args.cells.now _ c.args.hash c.args.key c.if-store.false c.if-traced.false c.if-key-store.false)
 
 pub remove_key_spec : {M : Type 1} → statement M
 remove_key_spec =
     tie.close
     (tie.spec
-    mul-ib
-    seek-requires
-    enum-known-sought
-    take-requires
+    overflow_mul-ib
+    seek-sought-requires
+    enum_known-sought
+    take-len-requires
     lessened-requires
-    enum_told
-    same_length
-    returns
-    same-length-2
-    returns-2
-    returns-3
+    enum_told-1
+    shape_of-cells-in-Here
+    returns-in-Here
+    shape_of-cells-in-Absent
+    returns-in-Absent
+    returns-then-traced
     remove-requires
-    same-length-3
-    returns-4
-    returns-5)
+    shape_of-cells-then-key-store
+    returns-then-key-store
+    returns)

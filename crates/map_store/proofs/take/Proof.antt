@@ -6,44 +6,44 @@ use Rattle.map_store.proofs.take.Tie as tie
 unplace-requires : tie.Need-unplace-requires
 unplace-requires c κs = search rules
 
-sub-left : tie.Need-overflow-sub-left
-sub-left c = some-live _ _ _ _ _ _ _ c.before.before.before.before.before.requires.0.0 c.before.before.before.before.before.requires.0.1 c.before.before.before.before.before.requires.0.2 (c.before.before.before.before.before.requires.1)
+overflow_sub-left : tie.Need-overflow_sub-left
+overflow_sub-left c = some-live _ _ _ _ _ _ _ c.requires.0.0 c.requires.0.1 c.requires.0.2 c.requires.1
 
-sub-dead : tie.Need-overflow-sub-dead
-sub-dead c = omega (arith, live_most _ _ _ _ _ _ _ c.before.before.before.before.before.requires.0.0 c.before.before.before.before.before.requires.0.1 c.before.before.before.before.before.requires.0.2 (c.before.before.before.before.before.requires.1))
+overflow_sub-dead : tie.Need-overflow_sub-dead
+overflow_sub-dead c = omega (arith, live_most _ _ _ _ _ _ _ c.requires.0.0 c.requires.0.1 c.requires.0.2 c.requires.1)
 
 tighten-requires : tie.Need-tighten-requires
-tighten-requires c κs = left-able _ _ _ _ _ _ _ c.before.before.before.before.before.before.before.before.requires.0.0 c.before.before.before.before.before.before.before.before.requires.0.1 c.before.before.before.before.before.before.before.before.requires.0.2 (c.before.before.before.before.before.before.before.before.requires.1) _ c.before.before.before.before.before.unplace.ensures.0 c.before.before.before.before.before.unplace.ensures.1.0 c.before.before.before.before.before.unplace.ensures.1.1
+tighten-requires c κs = left-able _ _ _ _ _ _ _ c.requires.0.0 c.requires.0.1 c.requires.0.2 c.requires.1 _ c.unplace.ensures.0 c.unplace.ensures.1.0 c.unplace.ensures.1.1
 
-same_length : tie.Need-same-length
-same_length c = search rules
+shape_of-cells-then-left-dead : tie.Need-shape_of-cells-then-left-dead
+shape_of-cells-then-left-dead c = search rules
 
-returns : tie.Need-returns
-returns c = taken-tight _ _ _ _ _ _ _ c.before.before.before.before.before.before.before.before.before.before.before.requires.0.0 c.before.before.before.before.before.before.before.before.before.before.before.requires.0.1 c.before.before.before.before.before.before.before.before.before.before.before.requires.0.2 (c.before.before.before.before.before.before.before.before.before.before.before.requires.1) _ c.before.before.before.before.before.before.before.before.unplace.ensures.0 c.before.before.before.before.before.before.before.before.unplace.ensures.1.0 c.before.before.before.before.before.before.before.before.unplace.ensures.1.1 (c.before.before.before.before.before.if1.true) (c.before.before.before.before.if2.true) _ _ (c.before.before.tighten.ensures)
+returns-then-left-dead : tie.Need-returns-then-left-dead
+returns-then-left-dead c = taken-tight _ _ _ _ _ _ _ c.requires.0.0 c.requires.0.1 c.requires.0.2 c.requires.1 _ c.unplace.ensures.0 c.unplace.ensures.1.0 c.unplace.ensures.1.1 c.if-dead-gt16.true c.if-left-dead.true _ _ c.tighten.ensures
 
-same-length-2 : tie.Need-same-length-2
-same-length-2 c = search rules
+shape_of-cells-else-left-dead : tie.Need-shape_of-cells-else-left-dead
+shape_of-cells-else-left-dead c = search rules
 
-returns-2 : tie.Need-returns-2
-returns-2 c = taken_less _ _ _ _ _ _ _ c.before.before.before.before.before.before.before.requires.0.0 c.before.before.before.before.before.before.before.requires.0.1 c.before.before.before.before.before.before.before.requires.0.2 (c.before.before.before.before.before.before.before.requires.1) _ c.before.before.before.before.unplace.ensures.0 c.before.before.before.before.unplace.ensures.1.0 c.before.before.before.before.unplace.ensures.1.1 (c.before.if1.true) (c.if2.false)
+returns-else-left-dead : tie.Need-returns-else-left-dead
+returns-else-left-dead c = taken_less _ _ _ _ _ _ _ c.requires.0.0 c.requires.0.1 c.requires.0.2 c.requires.1 _ c.unplace.ensures.0 c.unplace.ensures.1.0 c.unplace.ensures.1.1 c.if-dead-gt16.true c.if-left-dead.false
 
-same-length-3 : tie.Need-same-length-3
-same-length-3 c = search rules
+shape_of-cells-else-dead-gt16 : tie.Need-shape_of-cells-else-dead-gt16
+shape_of-cells-else-dead-gt16 c = search rules
 
-returns-3 : tie.Need-returns-3
-returns-3 c = taken-few _ _ _ _ _ _ _ c.before.before.before.before.before.before.requires.0.0 c.before.before.before.before.before.before.requires.0.1 c.before.before.before.before.before.before.requires.0.2 (c.before.before.before.before.before.before.requires.1) _ c.before.before.before.unplace.ensures.0 c.before.before.before.unplace.ensures.1.0 c.before.before.before.unplace.ensures.1.1 (c.if1.false)
+returns-else-dead-gt16 : tie.Need-returns-else-dead-gt16
+returns-else-dead-gt16 c = taken-few _ _ _ _ _ _ _ c.requires.0.0 c.requires.0.1 c.requires.0.2 c.requires.1 _ c.unplace.ensures.0 c.unplace.ensures.1.0 c.unplace.ensures.1.1 c.if-dead-gt16.false
 
 pub take_spec : {M : Type 1} → statement M
 take_spec =
     tie.close
     (tie.spec
     unplace-requires
-    sub-left
-    sub-dead
+    overflow_sub-left
+    overflow_sub-dead
     tighten-requires
-    same_length
-    returns
-    same-length-2
-    returns-2
-    same-length-3
-    returns-3)
+    shape_of-cells-then-left-dead
+    returns-then-left-dead
+    shape_of-cells-else-left-dead
+    returns-else-left-dead
+    shape_of-cells-else-dead-gt16
+    returns-else-dead-gt16)

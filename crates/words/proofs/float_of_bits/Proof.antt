@@ -14,14 +14,19 @@ zero_over_zero : Ieee.div binary64 (Ieee.of_bits binary64 0) (Ieee.of_bits binar
 unfolding Ieee.div Ieee.of_bits
 zero_over_zero = refl
 
+returns-then-bits-gt9218868437227405312 : tie.Need-returns-then-bits-gt9218868437227405312
+returns-then-bits-gt9218868437227405312 c = zero_over_zero ∙ sym (is_nan _ (nan_test _ ∙ lt-ltb _ _ c.if-bits-gt9218868437227405312.true))
+
+float_from_bits-result : tie.Need-float_from_bits-result
+float_from_bits-result c = subst⁻¹ (λ (t : Bool). T (not t)) (nan_bits_above binary64 _ ∙ le-ltb _ _ c.if-bits-gt9218868437227405312.false) tt
+
 returns : tie.Need-returns
-returns c = zero_over_zero ∙ sym (is_nan _ (nan_test _ ∙ lt-ltb _ _ c.if1.true))
-
-float-from-bits-result : tie.Need-float-from-bits-result
-float-from-bits-result c = subst⁻¹ (λ (t : Bool). T (not t)) (nan_bits_above binary64 _ ∙ le-ltb _ _ c.if1.false) tt
-
-returns-2 : tie.Need-returns-2
-returns-2 c = refl
+returns c = refl
 
 pub float_of_bits_spec : {M : Type 1} → statement M
-float_of_bits_spec = tie.close (tie.spec returns float-from-bits-result returns-2)
+float_of_bits_spec =
+    tie.close
+    (tie.spec
+    returns-then-bits-gt9218868437227405312
+    float_from_bits-result
+    returns)

@@ -4,13 +4,17 @@ use native.Mathlib.Omega.{arith}
 use Rattle.account.proofs.Account.after_sweep.Statement.{statement}
 use Rattle.account.proofs.Account.after_sweep.Tie as tie
 
-returns : tie.Need-returns
+returns-then-kept-lt-LEAST_THRESHOLD : tie.Need-returns-then-kept-lt-LEAST_THRESHOLD
 unfolding after_sweep
-returns c = rw (max-eq_right {n = c.before.args.kept} {m = 262144} (omega arith))
+returns-then-kept-lt-LEAST_THRESHOLD c = rw (max-eq_right {n = c.args.kept} {m = 262144} (omega arith))
 
-returns-2 : tie.Need-returns-2
+returns-else-kept-lt-LEAST_THRESHOLD : tie.Need-returns-else-kept-lt-LEAST_THRESHOLD
 unfolding after_sweep
-returns-2 c = rw (max-eq_left {n = c.before.args.kept} {m = 262144} (omega arith))
+returns-else-kept-lt-LEAST_THRESHOLD c = rw (max-eq_left {n = c.args.kept} {m = 262144} (omega arith))
 
 pub after_sweep_spec : {M : Type 1} → statement M
-after_sweep_spec = tie.close (tie.spec returns returns-2)
+after_sweep_spec =
+    tie.close
+    (tie.spec
+    returns-then-kept-lt-LEAST_THRESHOLD
+    returns-else-kept-lt-LEAST_THRESHOLD)

@@ -6,20 +6,25 @@ use borrow.Author.Rules.{rules}
 use Rattle.account.proofs.Account.charge.Statement.{statement}
 use Rattle.account.proofs.Account.charge.Tie as tie
 
-saturating-add-requires : tie.Need-saturating-add-requires
-saturating-add-requires c κs = search rules
+saturating_add-used-requires : tie.Need-saturating_add-used-requires
+saturating_add-used-requires c κs = search rules
 
-saturating-add-requires-2 : tie.Need-saturating-add-requires-2
-saturating-add-requires-2 c κs = search rules
+saturating_add-requires : tie.Need-saturating_add-requires
+saturating_add-requires c κs = search rules
 
-returns : tie.Need-returns
+returns-then-used-self : tie.Need-returns-then-used-self
 unfolding fits charged charge_of
-returns c = rw (saturated-below c.before.before.before.before.args.bytes (omega arith), ← c.before.before.before.saturating-add.ensures, ← c.saturating-add2.ensures, le-leb c.before.before.before.saturating-add.result c.before.before.before.before.args.self.limit (omega arith))
+returns-then-used-self c = rw (saturated-below c.args.bytes (omega arith), ← c.saturating_add-used.ensures, ← c.saturating_add.ensures, le-leb c.saturating_add-used.result c.args.self.limit (omega arith))
 
-returns-2 : tie.Need-returns-2
+returns-else-used-self : tie.Need-returns-else-used-self
 unfolding fits charged charge_of
-returns-2 c = rw (saturated-below c.before.before.before.args.bytes (omega arith), ← c.before.before.saturating-add.ensures, lt-leb c.before.before.saturating-add.result c.before.before.before.args.self.limit (omega arith))
+returns-else-used-self c = rw (saturated-below c.args.bytes (omega arith), ← c.saturating_add-used.ensures, lt-leb c.saturating_add-used.result c.args.self.limit (omega arith))
 
 pub charge_spec : {M : Type 1} → statement M
 charge_spec =
-    tie.close (tie.spec saturating-add-requires saturating-add-requires-2 returns returns-2)
+    tie.close
+    (tie.spec
+    saturating_add-used-requires
+    saturating_add-requires
+    returns-then-used-self
+    returns-else-used-self)

@@ -9,4 +9,8 @@ returns : tie.Need-returns
 returns c = rw c.allows.ensures
 
 pub fits_spec : {M : Type 1} → statement M
-fits_spec = tie.close (tie.spec allows-requires returns)
+fits_spec =
+    tie.close
+    (tie.spec
+    allows-requires
+    returns)

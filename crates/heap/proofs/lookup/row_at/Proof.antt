@@ -7,44 +7,44 @@ use Rattle.heap.proofs.lookup.row_at.Tie as tie
 find-requires : tie.Need-find-requires
 find-requires c κs = search rules
 
-enum_told : tie.Need-enum-told
-enum_told c = search rules
+enum_told-1 : tie.Need-enum_told-1
+enum_told-1 c = search rules
 
-enum-told-2 : tie.Need-enum-told-2
-enum-told-2 c = search rules
+enum_told-in-Dead : tie.Need-enum_told-in-Dead
+enum_told-in-Dead c = search rules
 
-enum-told-3 : tie.Need-enum-told-3
-enum-told-3 c = search rules
+enum_told-in-Wrong : tie.Need-enum_told-in-Wrong
+enum_told-in-Wrong c = search rules
 
-enum-known-i : tie.Need-enum-known-i
-enum-known-i c = search rules
+enum_known-i : tie.Need-enum_known-i
+enum_known-i c = search rules
 
-read-header-requires : tie.Need-read-header-requires
-read-header-requires c κs = found-fits c.before.before.before.find.ensures c.before.i.given.1 c.before.before.before.before.before.requires.0 c.before.before.before.before.before.requires.1
+read_header-h-requires : tie.Need-read_header-h-requires
+read_header-h-requires c κs = found-fits c.find.ensures c.in-At.is c.requires.0 c.requires.1
 
-returns : tie.Need-returns
-returns c = ranks_nil c.before.before.find.ensures c.enum_told.given.1
+returns-in-Nil : tie.Need-returns-in-Nil
+returns-in-Nil c = ranks_nil c.find.ensures c.in-Nil.is
 
-returns-2 : tie.Need-returns-2
-returns-2 c = ranks_dead c.before.before.find.ensures c.enum-told2.given.1
+returns-in-Dead : tie.Need-returns-in-Dead
+returns-in-Dead c = ranks_dead c.find.ensures c.in-Dead.is
 
-returns-3 : tie.Need-returns-3
-returns-3 c = ranks_wrong c.before.before.find.ensures c.enum-told3.given.1
+returns-in-Wrong : tie.Need-returns-in-Wrong
+returns-in-Wrong c = ranks_wrong c.find.ensures c.in-Wrong.is
 
-returns-4 : tie.Need-returns-4
-returns-4 c = ranks_at c.before.before.before.before.find.ensures c.before.before.i.given.1 c.read-header.ensures
+returns-in-At : tie.Need-returns-in-At
+returns-in-At c = ranks_at c.find.ensures c.in-At.is c.read_header-h.ensures
 
 pub row_at_spec : {M : Type 1} → statement M
 row_at_spec =
     tie.close
     (tie.spec
     find-requires
-    enum_told
-    enum-told-2
-    enum-told-3
-    enum-known-i
-    read-header-requires
-    returns
-    returns-2
-    returns-3
-    returns-4)
+    enum_told-1
+    enum_told-in-Dead
+    enum_told-in-Wrong
+    enum_known-i
+    read_header-h-requires
+    returns-in-Nil
+    returns-in-Dead
+    returns-in-Wrong
+    returns-in-At)

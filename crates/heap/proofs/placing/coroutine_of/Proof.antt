@@ -3,11 +3,15 @@ use borrow.Author.Tests.{eq-eqb, ne_eqb}
 use Rattle.heap.proofs.placing.coroutine_of.Statement.{statement}
 use Rattle.heap.proofs.placing.coroutine_of.Tie as tie
 
-returns : tie.Need-returns
-returns c = rw (eq-eqb _ _ c.if1.true)
+returns-then-kind-eq-COROUTINE : tie.Need-returns-then-kind-eq-COROUTINE
+returns-then-kind-eq-COROUTINE c = rw (eq-eqb _ _ c.if-kind-eq-COROUTINE.true)
 
-returns-2 : tie.Need-returns-2
-returns-2 c = rw (ne_eqb _ _ c.if1.false)
+returns-else-kind-eq-COROUTINE : tie.Need-returns-else-kind-eq-COROUTINE
+returns-else-kind-eq-COROUTINE c = rw (ne_eqb _ _ c.if-kind-eq-COROUTINE.false)
 
 pub coroutine_of_spec : {M : Type 1} → statement M
-coroutine_of_spec = tie.close (tie.spec returns returns-2)
+coroutine_of_spec =
+    tie.close
+    (tie.spec
+    returns-then-kind-eq-COROUTINE
+    returns-else-kind-eq-COROUTINE)

@@ -4,25 +4,31 @@ use borrow.Author.Rules.{rules}
 use Rattle.heap.proofs.placing.make_room.Statement.{statement}
 use Rattle.heap.proofs.placing.make_room.Tie as tie
 
-mul-reserve : tie.Need-overflow-mul-reserve
-mul-reserve c = search rules
+overflow_mul-heap : tie.Need-overflow_mul-heap
+overflow_mul-heap c = search rules
 
-reserve-requires : tie.Need-reserve-requires
-reserve-requires c κs = search rules
+reserve-t-requires : tie.Need-reserve-t-requires
+reserve-t-requires c κs = search rules
 
-same_length : tie.Need-same-length
-same_length c = search rules
+shape_of-slots : tie.Need-shape_of-slots
+shape_of-slots c = search rules
 
-same-length-2 : tie.Need-same-length-2
-same-length-2 c = search rules
+shape_of-directory : tie.Need-shape_of-directory
+shape_of-directory c = search rules
 
-same-length-3 : tie.Need-same-length-3
-same-length-3 c = search rules
+shape_of-cells : tie.Need-shape_of-cells
+shape_of-cells c = search rules
 
 returns : tie.Need-returns
-returns c = roomy c.before.before.before.before.before.before.before.before.before.before.before.before.before.before.before.before.requires.0 c.before.before.before.before.before.before.reserve.ensures
+returns c = roomy c.requires.0 c.reserve-t.ensures
 
 pub make_room_spec : {M : Type 1} → statement M
 make_room_spec =
     tie.close
-    (tie.spec mul-reserve reserve-requires same_length same-length-2 same-length-3 returns)
+    (tie.spec
+    overflow_mul-heap
+    reserve-t-requires
+    shape_of-slots
+    shape_of-directory
+    shape_of-cells
+    returns)

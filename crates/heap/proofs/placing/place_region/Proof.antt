@@ -5,47 +5,47 @@ use borrow.Author.Rules.{rules}
 use Rattle.heap.proofs.placing.place_region.Statement.{statement}
 use Rattle.heap.proofs.placing.place_region.Tie as tie
 
-next-slot-requires : tie.Need-next-slot-requires
-next-slot-requires c κs = search rules
+next_slot-requires : tie.Need-next_slot-requires
+next_slot-requires c κs = search rules
 
-mul-directory : tie.Need-overflow-mul-directory
-mul-directory c = search rules
+offset_bounds-directory-at : tie.Need-offset_bounds-directory-at
+offset_bounds-directory-at c = search rules
 
-slice-write-directory : tie.Need-slice-write-directory
-slice-write-directory c = search rules
+bounds-directory-at : tie.Need-bounds-directory-at
+bounds-directory-at c = search rules
 
-seat-requires : tie.Need-seat-requires
-seat-requires c κs = seatable c.before.before.before.before.before.before.before.requires.0 c.before.before.before.before.before.before.before.requires.1
+seat-made-requires : tie.Need-seat-made-requires
+seat-made-requires c κs = seatable c.requires.0 c.requires.1
 
-add-h : tie.Need-overflow-add-h
-add-h c = omega (arith, c.before.before.before.before.before.before.before.before.before.before.before.before.before.requires.2, c.before.before.before.before.before.before.before.before.before.before.before.before.before.requires.0.laid.cells_max)
+overflow_add-h : tie.Need-overflow_add-h
+overflow_add-h c = omega (arith, c.requires.2, c.requires.0.laid.cells_max)
 
-add-h-2 : tie.Need-overflow-add-h-2
-add-h-2 c = omega (arith, c.before.before.before.before.before.before.before.before.before.before.before.before.before.before.requires.3, c.before.before.before.before.before.before.before.before.before.before.before.before.before.before.requires.0.slots_max)
+overflow_add-h-2 : tie.Need-overflow_add-h-2
+overflow_add-h-2 c = omega (arith, c.requires.3, c.requires.0.slots_max)
 
-same_length : tie.Need-same-length
-same_length c = search rules
+shape_of-slots : tie.Need-shape_of-slots
+shape_of-slots c = search rules
 
-same-length-2 : tie.Need-same-length-2
-same-length-2 c = search rules
+shape_of-directory : tie.Need-shape_of-directory
+shape_of-directory c = search rules
 
 returns : tie.Need-returns
 returns c =
-    let at-seat : tie.After-seat = search in
-    let at_next : tie.After-next-slot = search in
+    let at-seat : tie.After-seat-made = search in
+    let at_next : tie.After-next_slot = search in
     let start : tie.Start = search in
-    region-state start.args.header start.pre.0 start.pre.1 start.pre.2 start.pre.3 start.pre.4 at-seat.seat.ensures at_next.next-slot.ensures
+    region-state start.args.header start.requires.0 start.requires.1 start.requires.2 start.requires.3 start.requires.4 at-seat.seat-made.ensures at_next.next_slot.ensures
 
 pub place_region_spec : {M : Type 1} → statement M
 place_region_spec =
     tie.close
     (tie.spec
-    next-slot-requires
-    mul-directory
-    slice-write-directory
-    seat-requires
-    add-h
-    add-h-2
-    same_length
-    same-length-2
+    next_slot-requires
+    offset_bounds-directory-at
+    bounds-directory-at
+    seat-made-requires
+    overflow_add-h
+    overflow_add-h-2
+    shape_of-slots
+    shape_of-directory
     returns)

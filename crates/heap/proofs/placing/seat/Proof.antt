@@ -9,64 +9,64 @@ use Rattle.heap.proofs.placing.seat.Tie as tie
 charge-requires : tie.Need-charge-requires
 charge-requires c κs = search rules
 
-enum-known-next : tie.Need-enum-known-next
-enum-known-next c = search rules
+enum_known-next : tie.Need-enum_known-next
+enum_known-next c = search rules
 
-enum_told : tie.Need-enum-told
-enum_told c = search rules
+enum_told-1 : tie.Need-enum_told-1
+enum_told-1 c = search rules
+
+returns-in_default : tie.Need-returns-in_default
+returns-in_default c = absurd (seat-charged c.requires c.charge.ensures c.in_default.is)
+
+flag_of-requires : tie.Need-flag_of-requires
+flag_of-requires c κs = search rules
+
+take_slot-t-requires : tie.Need-take_slot-t-requires
+take_slot-t-requires c κs = (omega (arith, c.requires.fresh, c.requires.slots_max), omega (arith, c.requires.fresh, c.requires.slots_fit), c.requires.list_fit, rw c.flag_of.ensures (flag-max c.args.header.kind), c.requires.listed)
+
+write_header-requires : tie.Need-write_header-requires
+write_header-requires c κs = seat-slot c.requires c.take_slot-t.ensures
+
+overflow_add-h : tie.Need-overflow_add-h
+overflow_add-h c = omega (arith, c.requires.cells_max)
+
+overflow_add-h-2 : tie.Need-overflow_add-h-2
+overflow_add-h-2 c = omega (arith, c.requires.present)
+
+coroutine_of-requires : tie.Need-coroutine_of-requires
+coroutine_of-requires c κs = search rules
+
+overflow_add-h-3 : tie.Need-overflow_add-h-3
+overflow_add-h-3 c = omega (arith, c.requires.coroutines, c.coroutine_of.ensures, coroutine-max c.args.header.kind)
+
+overflow_mul-result : tie.Need-overflow_mul-result
+overflow_mul-result c = omega (arith, seat-half c.requires c.take_slot-t.ensures (rw c.flag_of.ensures (flag-max c.args.header.kind)))
+
+overflow_add-result : tie.Need-overflow_add-result
+overflow_add-result c = omega (arith, seat-half c.requires c.take_slot-t.ensures (rw c.flag_of.ensures (flag-max c.args.header.kind)), (seat-slot c.requires c.take_slot-t.ensures).0)
+
+shape_of-slots : tie.Need-shape_of-slots
+shape_of-slots c = search rules
 
 returns : tie.Need-returns
-returns c = absurd (seat-charged c.before.before.before.before.before.before.requires c.before.before.charge.ensures c.enum_told.given.1)
-
-flag-of-requires : tie.Need-flag-of-requires
-flag-of-requires c κs = search rules
-
-take-slot-requires : tie.Need-take-slot-requires
-take-slot-requires c κs = (omega (arith, c.before.before.before.before.before.before.before.before.before.requires.fresh, c.before.before.before.before.before.before.before.before.before.requires.slots_max), omega (arith, c.before.before.before.before.before.before.before.before.before.requires.fresh, c.before.before.before.before.before.before.before.before.before.requires.slots_fit), c.before.before.before.before.before.before.before.before.before.requires.list_fit, rw c.flag-of.ensures (flag-max c.before.before.before.before.before.before.before.before.before.args.header.kind), c.before.before.before.before.before.before.before.before.before.requires.listed)
-
-write-header-requires : tie.Need-write-header-requires
-write-header-requires c κs = seat-slot c.before.before.before.before.before.before.before.before.before.before.before.requires c.before.take-slot.ensures
-
-add-h : tie.Need-overflow-add-h
-add-h c = omega (arith, c.before.before.before.before.before.before.before.before.before.before.before.before.before.before.before.before.requires.cells_max)
-
-add-h-2 : tie.Need-overflow-add-h-2
-add-h-2 c = omega (arith, c.before.before.before.before.before.before.before.before.before.before.before.before.before.before.before.before.before.requires.present)
-
-coroutine-of-requires : tie.Need-coroutine-of-requires
-coroutine-of-requires c κs = search rules
-
-add-h-3 : tie.Need-overflow-add-h-3
-add-h-3 c = omega (arith, c.before.before.before.before.before.before.before.before.before.before.before.before.before.before.before.before.before.before.before.requires.coroutines, c.before.coroutine-of.ensures, coroutine-max c.before.before.before.before.before.before.before.before.before.before.before.before.before.before.before.before.before.before.before.args.header.kind)
-
-mul-t16 : tie.Need-overflow-mul-t16
-mul-t16 c = omega (arith, seat-half c.before.before.before.before.before.before.before.before.before.before.before.before.before.before.before.before.before.before.before.before.requires c.before.before.before.before.before.before.before.before.before.before.take-slot.ensures (rw c.before.before.before.before.before.before.before.before.before.before.before.flag-of.ensures (flag-max c.before.before.before.before.before.before.before.before.before.before.before.before.before.before.before.before.before.before.before.before.args.header.kind)))
-
-add-t21 : tie.Need-overflow-add-t21
-add-t21 c = omega (arith, seat-half c.before.before.before.before.before.before.before.before.before.before.before.before.before.before.before.before.before.before.before.before.before.requires c.before.before.before.before.before.before.before.before.before.before.before.take-slot.ensures (rw c.before.before.before.before.before.before.before.before.before.before.before.before.flag-of.ensures (flag-max c.before.before.before.before.before.before.before.before.before.before.before.before.before.before.before.before.before.before.before.before.before.args.header.kind)), (seat-slot c.before.before.before.before.before.before.before.before.before.before.before.before.before.before.before.before.before.before.before.before.before.requires c.before.before.before.before.before.before.before.before.before.before.before.take-slot.ensures).0)
-
-same_length : tie.Need-same-length
-same_length c = search rules
-
-returns-2 : tie.Need-returns-2
-returns-2 c = seats _ _ _ c.before.before.before.before.before.before.before.before.before.before.before.take-slot.ensures c.before.before.before.before.before.before.before.before.before.before.before.before.flag-of.ensures c.before.before.before.coroutine-of.ensures c.before.before.before.before.before.before.before.before.before.before.before.before.before.before.before.before.before.charge.ensures c.before.before.before.before.before.before.before.before.before.before.before.before.before.before.before.next.given.1 c.before.before.before.before.before.before.before.before.before.write-header.ensures
+returns c = seats _ _ _ c.take_slot-t.ensures c.flag_of.ensures c.coroutine_of.ensures c.charge.ensures c.in-Next.is c.write_header.ensures
 
 pub seat_spec : {M : Type 1} → statement M
 seat_spec =
     tie.close
     (tie.spec
     charge-requires
-    enum-known-next
-    enum_told
-    returns
-    flag-of-requires
-    take-slot-requires
-    write-header-requires
-    add-h
-    add-h-2
-    coroutine-of-requires
-    add-h-3
-    mul-t16
-    add-t21
-    same_length
-    returns-2)
+    enum_known-next
+    enum_told-1
+    returns-in_default
+    flag_of-requires
+    take_slot-t-requires
+    write_header-requires
+    overflow_add-h
+    overflow_add-h-2
+    coroutine_of-requires
+    overflow_add-h-3
+    overflow_mul-result
+    overflow_add-result
+    shape_of-slots
+    returns)

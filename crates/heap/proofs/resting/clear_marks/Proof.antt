@@ -9,36 +9,47 @@ use Rattle.heap.proofs.OpenLaws.{cleared_more}
 use Rattle.heap.proofs.resting.clear_marks.Statement.{statement}
 use Rattle.heap.proofs.resting.clear_marks.Tie as tie
 
-abbrev invariant_loop : tie.invariant_loop
+abbrev invariant_loop : tie.invariant-loop-i
 invariant_loop l₀ n i₀ l i = (l ≡ cleared l₀ i) × (i ≤ n) × (length l ≡ length l₀)
 
-abbrev decreases_loop : tie.decreases_loop
+abbrev decreases_loop : tie.decreases-loop-i
 decreases_loop l₀ n i₀ l i = n - i
 
-loop-holds : tie.Need-loop-init invariant_loop decreases_loop
-loop-holds c = (refl, omega arith, refl)
+loop-i-init : tie.Need-loop-i-init invariant_loop decreases_loop
+loop-i-init c = (refl, omega arith, refl)
 
-slice-write-marks : tie.Need-slice-write-marks invariant_loop decreases_loop
-slice-write-marks c = omega arith
+bounds-marks-i : tie.Need-bounds-marks-i invariant_loop decreases_loop
+bounds-marks-i c = omega arith
 
-add-i : tie.Need-overflow-add-i invariant_loop decreases_loop
-add-i c = omega arith
+overflow_add-i : tie.Need-overflow_add-i invariant_loop decreases_loop
+overflow_add-i c = omega arith
 
-loop-less : tie.Need-loop-smaller invariant_loop decreases_loop
-loop-less c = omega arith
+loop-i-smaller : tie.Need-loop-i-smaller invariant_loop decreases_loop
+loop-i-smaller c = omega arith
 
-loop-again : tie.Need-loop-preserved invariant_loop decreases_loop
-loop-again c =
-    let h : c.before.loop.i < length c.before.before.args.marks.now = omega arith in
-    (ap (λ (l : List ℕ). set l c.before.loop.i 0) c.before.loop.invariant.0 ∙ cleared_more c.before.before.args.marks.now c.before.loop.i h, omega arith, length-set c.before.loop.marks c.before.loop.i 0 ∙ c.before.loop.invariant.2)
+loop-i-preserved : tie.Need-loop-i-preserved invariant_loop decreases_loop
+loop-i-preserved c =
+    let h : c.loop-i.i < length c.args.marks.now = omega arith in
+    (ap (λ (l : List ℕ). set l c.loop-i.i 0) c.loop-i.invariant.0 ∙ cleared_more c.args.marks.now c.loop-i.i h, omega arith, length-set c.loop-i.marks c.loop-i.i 0 ∙ c.loop-i.invariant.2)
 
-same_length : tie.Need-same-length invariant_loop decreases_loop
-same_length c = c.before.loop.invariant.2
+shape_of-marks : tie.Need-shape_of-marks invariant_loop decreases_loop
+shape_of-marks c = c.loop-i.invariant.2
 
 returns : tie.Need-returns invariant_loop decreases_loop
 returns c =
-    let e : c.before.loop.i ≡ c.before.before.args.n = omega arith in
-    c.before.loop.invariant.0 ∙ ap (cleared c.before.before.args.marks.now) e
+    let e : c.loop-i.i ≡ c.args.n = omega arith in
+    c.loop-i.invariant.0 ∙ ap (cleared c.args.marks.now) e
 
 pub clear_marks_spec : {M : Type 1} → statement M
-clear_marks_spec = tie.close (tie.spec invariant_loop decreases_loop loop-holds slice-write-marks add-i loop-less loop-again same_length returns)
+clear_marks_spec =
+    tie.close
+    (tie.spec
+    invariant_loop
+    decreases_loop
+    loop-i-init
+    bounds-marks-i
+    overflow_add-i
+    loop-i-smaller
+    loop-i-preserved
+    shape_of-marks
+    returns)

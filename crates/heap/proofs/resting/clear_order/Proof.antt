@@ -9,39 +9,51 @@ use Rattle.heap.proofs.OpenLaws.{cleared_more}
 use Rattle.heap.proofs.resting.clear_order.Statement.{statement}
 use Rattle.heap.proofs.resting.clear_order.Tie as tie
 
-abbrev invariant_loop : tie.invariant_loop
+abbrev invariant_loop : tie.invariant-loop-i
 invariant_loop l₀ n i₀ l i = (l ≡ cleared l₀ i) × (i ≤ n) × (length l ≡ length l₀)
 
-abbrev decreases_loop : tie.decreases_loop
+abbrev decreases_loop : tie.decreases-loop-i
 decreases_loop l₀ n i₀ l i = n - i
 
-loop-holds : tie.Need-loop-init invariant_loop decreases_loop
-loop-holds c = (refl, omega arith, refl)
+loop-i-init : tie.Need-loop-i-init invariant_loop decreases_loop
+loop-i-init c = (refl, omega arith, refl)
 
-mul-order : tie.Need-overflow-mul-order invariant_loop decreases_loop
-mul-order c = omega arith
+offset_bounds-order-i : tie.Need-offset_bounds-order-i invariant_loop decreases_loop
+offset_bounds-order-i c = omega arith
 
-slice-write-order : tie.Need-slice-write-order invariant_loop decreases_loop
-slice-write-order c = omega arith
+bounds-order-i : tie.Need-bounds-order-i invariant_loop decreases_loop
+bounds-order-i c = omega arith
 
-add-i : tie.Need-overflow-add-i invariant_loop decreases_loop
-add-i c = omega arith
+overflow_add-i : tie.Need-overflow_add-i invariant_loop decreases_loop
+overflow_add-i c = omega arith
 
-loop-less : tie.Need-loop-smaller invariant_loop decreases_loop
-loop-less c = omega arith
+loop-i-smaller : tie.Need-loop-i-smaller invariant_loop decreases_loop
+loop-i-smaller c = omega arith
 
-loop-again : tie.Need-loop-preserved invariant_loop decreases_loop
-loop-again c =
-    let h : c.before.loop.i < length c.before.before.args.order.now = omega arith in
-    (ap (λ (l : List ℕ). set l c.before.loop.i 0) c.before.loop.invariant.0 ∙ cleared_more c.before.before.args.order.now c.before.loop.i h, omega arith, length-set c.before.loop.order c.before.loop.i 0 ∙ c.before.loop.invariant.2)
+loop-i-preserved : tie.Need-loop-i-preserved invariant_loop decreases_loop
+loop-i-preserved c =
+    let h : c.loop-i.i < length c.args.order.now = omega arith in
+    (ap (λ (l : List ℕ). set l c.loop-i.i 0) c.loop-i.invariant.0 ∙ cleared_more c.args.order.now c.loop-i.i h, omega arith, length-set c.loop-i.order c.loop-i.i 0 ∙ c.loop-i.invariant.2)
 
-same_length : tie.Need-same-length invariant_loop decreases_loop
-same_length c = c.before.loop.invariant.2
+shape_of-order : tie.Need-shape_of-order invariant_loop decreases_loop
+shape_of-order c = c.loop-i.invariant.2
 
 returns : tie.Need-returns invariant_loop decreases_loop
 returns c =
-    let e : c.before.loop.i ≡ c.before.before.args.n = omega arith in
-    c.before.loop.invariant.0 ∙ ap (cleared c.before.before.args.order.now) e
+    let e : c.loop-i.i ≡ c.args.n = omega arith in
+    c.loop-i.invariant.0 ∙ ap (cleared c.args.order.now) e
 
 pub clear_order_spec : {M : Type 1} → statement M
-clear_order_spec = tie.close (tie.spec invariant_loop decreases_loop loop-holds mul-order slice-write-order add-i loop-less loop-again same_length returns)
+clear_order_spec =
+    tie.close
+    (tie.spec
+    invariant_loop
+    decreases_loop
+    loop-i-init
+    offset_bounds-order-i
+    bounds-order-i
+    overflow_add-i
+    loop-i-smaller
+    loop-i-preserved
+    shape_of-order
+    returns)
