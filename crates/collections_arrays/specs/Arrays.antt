@@ -1,5 +1,5 @@
 -- Arrays that grow (document 01, "Slot and object").
-use Rattle.std.specs.Prelude.{ℕ, ◌+◌, ◌*◌, ◌-◌, ◌≤◌, ◌<◌, ◌≡◌, cond, List, eqb, length, set}
+use Rattle.std.specs.Prelude.{ℕ, ◌+◌, ◌*◌, ◌≤◌, ◌<◌, ◌≡◌, cond, List, eqb, length, set}
 use Rattle.heap_slots.specs.Header.{header_at}
 use Rattle.heap_slots.specs.Limits.{CELLS_MAX, SLOT_WORDS, SLOTS_MAX}
 use Rattle.heap_cells.specs.Regions.{Grown}

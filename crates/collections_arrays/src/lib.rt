@@ -1,10 +1,12 @@
 // Arrays that grow and shrink at their end.
+#![tactic(auto)]
+
 ghost use Rattle.std.specs.Prelude.{◌≡◌, ◌+◌, ◌*◌, ◌≤◌, ◌<◌};
 ghost use Rattle.heap_slots.specs.Kinds.{ARRAY};
 ghost use Rattle.heap_slots.specs.Limits.{CELLS_MAX};
 ghost use Rattle.model.specs.Calls as Calls;
 ghost use Rattle.heap.specs.Answers.{done_is, reading_is};
-ghost use Rattle.heap.specs.State.{after, before, lent};
+ghost use Rattle.heap.specs.State.{state};
 ghost use Rattle.heap.specs.Good.{Good};
 ghost use Rattle.heap.specs.Promise.{Performs};
 ghost use Rattle.heap.proofs.ReachLaws.{Target};
@@ -68,9 +70,9 @@ fn push_grown(
     t: u64,
     v: u64,
 ) -> Top
-    requires good { Good (lent heap slots scalars list directory cells) }
-    requires room { Extending (lent heap slots scalars list directory cells) i size }
-    ensures { Extended (before heap slots scalars list directory cells) i size t v result (after heap slots scalars list directory cells) }
+    requires good { Good (state heap slots.old scalars.now list.now directory.old cells.old) }
+    requires room { Extending (state heap slots.old scalars.now list.now directory.old cells.old) i size }
+    ensures { Extended (state heap slots.old scalars.now list.now directory.old cells.old) i size t v result (state heap slots.new scalars.now list.now directory.new cells.new) }
 {
     let word = item(heap, slots, scalars, list, directory, cells, t, v);
     let top = Top {
@@ -103,9 +105,9 @@ fn push_at(
     i: usize,
     v: u64,
 ) -> Changed
-    requires good { Good (lent heap slots scalars list directory cells) }
-    requires array { Target (lent heap slots scalars list directory cells) w i ARRAY }
-    ensures { Performs (Calls.push w v) (before heap slots scalars list directory cells) (done_is result.done) (after (changed_heap heap result) slots scalars list directory cells) }
+    requires good { Good (state heap slots.old scalars.now list.now directory.old cells.old) }
+    requires array { Target (state heap slots.old scalars.now list.now directory.old cells.old) w i ARRAY }
+    ensures { Performs (Calls.push w v) (state heap slots.old scalars.now list.now directory.old cells.old) (done_is result.done) (state (changed_heap heap result) slots.new scalars.now list.now directory.new cells.new) }
 {
     let h = heap_slots::read_header(slots, i);
     let size = push_size(h.len, h.size);
@@ -140,8 +142,8 @@ pub fn pop(
     cells: &[u64],
     w: u64,
 ) -> Reading
-    requires { Good (lent heap slots scalars list directory cells) }
-    ensures { Performs (Calls.pop w) (before heap slots scalars list directory cells) (reading_is result) (after heap slots scalars list directory cells) }
+    requires { Good (state heap slots.old scalars.now list.now directory.now cells.now) }
+    ensures { Performs (Calls.pop w) (state heap slots.old scalars.now list.now directory.now cells.now) (reading_is result) (state heap slots.new scalars.now list.now directory.now cells.now) }
 {
     match lookup::locate(slots, heap.fresh, w, kinds::ARRAY) {
         Located::Refused(q) => Reading::Refused(q),
@@ -174,8 +176,8 @@ fn push_change(
     w: u64,
     v: u64,
 ) -> Changed
-    requires { Good (lent heap slots scalars list directory cells) }
-    ensures { Performs (Calls.push w v) (before heap slots scalars list directory cells) (done_is result.done) (after (changed_heap heap result) slots scalars list directory cells) }
+    requires { Good (state heap slots.old scalars.now list.now directory.old cells.old) }
+    ensures { Performs (Calls.push w v) (state heap slots.old scalars.now list.now directory.old cells.old) (done_is result.done) (state (changed_heap heap result) slots.new scalars.now list.now directory.new cells.new) }
 {
     match lookup::locate(slots, heap.fresh, w, kinds::ARRAY) {
         Located::Refused(q) => unchanged(heap, Done::Refused(q)),
@@ -207,8 +209,8 @@ pub fn push(
     w: u64,
     v: u64,
 ) -> Settled
-    requires { Good (lent heap slots scalars list directory cells) }
-    ensures { Performs (Calls.push w v) (before heap slots scalars list directory cells) (done_is result.done) (after result.heap slots scalars list directory cells) }
+    requires { Good (state heap slots.old scalars.now list.now directory.old cells.old) }
+    ensures { Performs (Calls.push w v) (state heap slots.old scalars.now list.now directory.old cells.old) (done_is result.done) (state result.heap slots.new scalars.now list.now directory.new cells.new) }
 {
     let c = push_change(heap, slots, scalars, list, directory, cells, w, v);
     settle(heap, c)

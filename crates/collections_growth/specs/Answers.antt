@@ -1,7 +1,6 @@
 -- What a position, an item or a key means as an answer: the model's answer, or document 01's number of a refusal.
 use Rattle.std.proofs.Math.Option.{none, some}
 use Rattle.model.specs.Replies.{perhaps}
-use Rattle.map_store.specs.View.{position}
 use Rattle.history.proofs.Lift.{Seen}
 use Rattle.heap.specs.Answers.{answered, refused}
 use Rattle.collections_growth.specs.declared.Perhaps.{Perhaps}

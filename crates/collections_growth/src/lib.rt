@@ -1,7 +1,9 @@
 // What arrays, maps and iterators share: a region that grows, and how a change is handed on.
+#![tactic(auto)]
+
 ghost use Rattle.std.specs.Prelude.{◌≡◌, ◌+◌, ◌≤◌, ◌<◌, length};
 ghost use Rattle.heap_cells.specs.Regions.{Grown, region_of};
-ghost use Rattle.heap.specs.State.{before, lent};
+ghost use Rattle.heap.specs.State.{state};
 ghost use Rattle.heap.specs.Good.{Good};
 ghost use Rattle.collections_growth.specs.Words.{map_from, ItemIs, ZeroCharge};
 ghost use Rattle.collections_growth.specs.Growth.{Lengthening, changed, changed_heap, top_of};
@@ -16,7 +18,7 @@ use map_store::MapStore;
 const DYNAMIC: u64 = 2;
 
 // A position, an item or a key; or that there is none.
-#[derive(Drop)]
+#[derive(Clone, Copy)]
 pub enum Perhaps {
     Is(u64),
     Absent,
@@ -62,8 +64,8 @@ pub fn item(
     t: u64,
     w: u64,
 ) -> u64
-    requires { Good (lent heap slots scalars list directory cells) }
-    ensures { ItemIs (before heap slots scalars list directory cells) t w result }
+    requires { Good (state heap slots.now scalars.now list.now directory.now cells.now) }
+    ensures { ItemIs (state heap slots.now scalars.now list.now directory.now cells.now) t w result }
 {
     if t == DYNAMIC {
         return heap::deref(heap, slots, scalars, list, directory, cells, w);
@@ -80,7 +82,7 @@ pub fn zero_fits(account: Account) -> bool
 
 // What a change has made of the record: its account, the regions' top and the cells in use. The rest
 // of the record is as it was and is not handed on, so that no call copies it from exit to exit.
-#[derive(Drop)]
+#[derive(Clone, Copy)]
 pub struct Changed {
     pub account: Account,
     pub top: Top,
@@ -130,8 +132,8 @@ pub fn longer(
     i: usize,
     size: u64,
 ) -> Top
-    requires good { Good (lent heap slots scalars list directory cells) }
-    requires room { Lengthening (lent heap slots scalars list directory cells) i size }
+    requires good { Good (state heap slots.old scalars.now list.now directory.old cells.old) }
+    requires room { Lengthening (state heap slots.old scalars.now list.now directory.old cells.old) i size }
     ensures { Grown heap.fresh i size result slots.old directory.old cells.old slots.new directory.new cells.new }
 {
     let h = heap_slots::read_header(slots, i);

@@ -1,6 +1,6 @@
 -- What an iterator's cursor means as an answer.
-use Rattle.model.specs.Replies.{array_cursor, map_cursor, nothing}
-use Rattle.map_store.specs.View.{cursor_is, position}
+use Rattle.model.specs.Replies.{array_cursor, map_cursor}
+use Rattle.map_store.specs.View.{cursor_is}
 use Rattle.history.proofs.Lift.{Seen}
 use Rattle.heap.specs.Answers.{answered, refused}
 use Rattle.collections_iterators.specs.declared.CursorRead.{CursorRead}

@@ -1,11 +1,13 @@
 // Iterators over arrays and maps.
+#![tactic(auto)]
+
 ghost use Rattle.std.specs.Prelude.{◌≡◌, ◌+◌, ◌<◌};
 ghost use Rattle.heap_slots.specs.Scalars.{scalars_of_iterator};
 ghost use Rattle.map_store.specs.View.{cursor_is};
 ghost use Rattle.model.specs.Calls as Calls;
 ghost use Rattle.heap.specs.Answers.{made_is, reading_is, test_is};
 ghost use Rattle.heap.specs.Kinds.{cursor_of};
-ghost use Rattle.heap.specs.State.{after, before, lent};
+ghost use Rattle.heap.specs.State.{state};
 ghost use Rattle.heap.specs.Good.{Good};
 ghost use Rattle.heap.specs.Promise.{Performs, Reads};
 ghost use Rattle.collections_growth.specs.Answers.{perhaps_is};
@@ -20,7 +22,7 @@ use heap_slots::{FoundSlot, Header, IteratorScalars, MapScalars, kinds};
 use map_store::{Cursor, Last};
 
 // An iterator's cursor: over an array its index alone.
-#[derive(Drop)]
+#[derive(Clone, Copy)]
 pub enum CursorRead {
     Index(u64),
     Map(Cursor),
@@ -28,14 +30,14 @@ pub enum CursorRead {
 }
 
 // The item that an iterator's step visits, or its end.
-#[derive(Drop)]
+#[derive(Clone, Copy)]
 enum Visited {
     Item(u64),
     End,
 }
 
 // An iterator's step: the scalars afterwards, and the item.
-#[derive(Drop)]
+#[derive(Clone, Copy)]
 struct Visit {
     next: IteratorScalars,
     item: Visited,
@@ -114,10 +116,10 @@ fn visit_array(
     h: Header,
     x: IteratorScalars,
 ) -> Visit
-    requires good { Good (lent heap slots scalars list directory cells) }
-    requires array { ArrayKnown (lent heap slots scalars list directory cells) h }
+    requires good { Good (state heap slots.now scalars.now list.now directory.now cells.now) }
+    requires array { ArrayKnown (state heap slots.now scalars.now list.now directory.now cells.now) h }
     requires epoch { x.epoch < 4294967296 }
-    ensures { VisitsArray (before heap slots scalars list directory cells) h x result }
+    ensures { VisitsArray (state heap slots.now scalars.now list.now directory.now cells.now) h x result }
 {
     if h.len <= x.position {
         return ended(x);
@@ -149,10 +151,10 @@ fn visit_map(
     y: MapScalars,
     x: IteratorScalars,
 ) -> Visit
-    requires good { Good (lent heap slots scalars list directory cells) }
-    requires map { MapKnown (lent heap slots scalars list directory cells) h y }
+    requires good { Good (state heap slots.now scalars.now list.now directory.now cells.now) }
+    requires map { MapKnown (state heap slots.now scalars.now list.now directory.now cells.now) h y }
     requires epoch { x.epoch < 4294967296 }
-    ensures { VisitsMap (before heap slots scalars list directory cells) h y x result }
+    ensures { VisitsMap (state heap slots.now scalars.now list.now directory.now cells.now) h y x result }
 {
     let m = map_of(h, y);
     let s = map_store::step(m, region(cells, h), cursor_of(x));
@@ -186,9 +188,9 @@ fn advance(
     source: u64,
     x: IteratorScalars,
 ) -> Visit
-    requires good { Good (lent heap slots scalars list directory cells) }
+    requires good { Good (state heap slots.now scalars.now list.now directory.now cells.now) }
     requires epoch { x.epoch < 4294967296 }
-    ensures { Visits (before heap slots scalars list directory cells) source x result }
+    ensures { Visits (state heap slots.now scalars.now list.now directory.now cells.now) source x result }
 {
     if x.ended != 0 {
         return Visit {
@@ -224,8 +226,8 @@ pub fn iter_source(
     cells: &[u64],
     w: u64,
 ) -> Reading
-    requires { Good (lent heap slots scalars list directory cells) }
-    ensures { Reads (Calls.iter_source w) (before heap slots scalars list directory cells) (reading_is result) }
+    requires { Good (state heap slots.now scalars.now list.now directory.now cells.now) }
+    ensures { Reads (Calls.iter_source w) (state heap slots.now scalars.now list.now directory.now cells.now) (reading_is result) }
 {
     match lookup::locate(slots, heap.fresh, w, kinds::ITERATOR) {
         Located::Refused(q) => Reading::Refused(q),
@@ -246,8 +248,8 @@ pub fn iter_key_type(
     cells: &[u64],
     w: u64,
 ) -> Reading
-    requires { Good (lent heap slots scalars list directory cells) }
-    ensures { Reads (Calls.iter_key_type w) (before heap slots scalars list directory cells) (reading_is result) }
+    requires { Good (state heap slots.now scalars.now list.now directory.now cells.now) }
+    ensures { Reads (Calls.iter_key_type w) (state heap slots.now scalars.now list.now directory.now cells.now) (reading_is result) }
 {
     match lookup::locate(slots, heap.fresh, w, kinds::ITERATOR) {
         Located::Refused(q) => Reading::Refused(q),
@@ -268,8 +270,8 @@ pub fn iter_ended(
     cells: &[u64],
     w: u64,
 ) -> Test
-    requires { Good (lent heap slots scalars list directory cells) }
-    ensures { Reads (Calls.iter_ended w) (before heap slots scalars list directory cells) (test_is result) }
+    requires { Good (state heap slots.now scalars.now list.now directory.now cells.now) }
+    ensures { Reads (Calls.iter_ended w) (state heap slots.now scalars.now list.now directory.now cells.now) (test_is result) }
 {
     match lookup::locate(slots, heap.fresh, w, kinds::ITERATOR) {
         Located::Refused(q) => Test::Refused(q),
@@ -290,8 +292,8 @@ pub fn iter_key(
     cells: &[u64],
     w: u64,
 ) -> Perhaps
-    requires { Good (lent heap slots scalars list directory cells) }
-    ensures { Reads (Calls.iter_key w) (before heap slots scalars list directory cells) (perhaps_is result) }
+    requires { Good (state heap slots.now scalars.now list.now directory.now cells.now) }
+    ensures { Reads (Calls.iter_key w) (state heap slots.now scalars.now list.now directory.now cells.now) (perhaps_is result) }
 {
     match lookup::locate(slots, heap.fresh, w, kinds::ITERATOR) {
         Located::Refused(q) => Perhaps::Refused(q),
@@ -315,8 +317,8 @@ pub fn iter_cursor(
     cells: &[u64],
     w: u64,
 ) -> CursorRead
-    requires { Good (lent heap slots scalars list directory cells) }
-    ensures { Reads (Calls.iter_cursor w) (before heap slots scalars list directory cells) (cursor_seen result) }
+    requires { Good (state heap slots.now scalars.now list.now directory.now cells.now) }
+    ensures { Reads (Calls.iter_cursor w) (state heap slots.now scalars.now list.now directory.now cells.now) (cursor_seen result) }
 {
     match lookup::locate(slots, heap.fresh, w, kinds::ITERATOR) {
         Located::Refused(q) => CursorRead::Refused(q),
@@ -341,8 +343,8 @@ pub fn iter_next(
     cells: &[u64],
     w: u64,
 ) -> Perhaps
-    requires { Good (lent heap slots scalars list directory cells) }
-    ensures { Performs (Calls.iter_next w) (before heap slots scalars list directory cells) (perhaps_is result) (after heap slots scalars list directory cells) }
+    requires { Good (state heap slots.now scalars.old list.now directory.now cells.now) }
+    ensures { Performs (Calls.iter_next w) (state heap slots.now scalars.old list.now directory.now cells.now) (perhaps_is result) (state heap slots.now scalars.new list.now directory.now cells.now) }
 {
     match lookup::locate(slots, heap.fresh, w, kinds::ITERATOR) {
         Located::Refused(q) => Perhaps::Refused(q),
@@ -372,8 +374,8 @@ fn begin_iter(
     source: u64,
     keys: u64,
 ) -> Made
-    requires { Good (lent heap slots scalars list directory cells) }
-    ensures { Begins (before heap slots scalars list directory cells) source keys result.answer (after result.heap slots scalars list directory cells) }
+    requires { Good (state heap slots.old scalars.old list.now directory.now cells.now) }
+    ensures { Begins (state heap slots.old scalars.old list.now directory.now cells.now) source keys result.answer (state result.heap slots.new scalars.new list.now directory.now cells.now) }
 {
     let weights = heap.weights;
     let h = heap_slots::fresh_header(kinds::ITERATOR, source, keys, 0, 0);
@@ -409,8 +411,8 @@ pub fn new_iter(
     cells: &[u64],
     source: u64,
 ) -> Made
-    requires { Good (lent heap slots scalars list directory cells) }
-    ensures { Performs (Calls.new_iter source) (before heap slots scalars list directory cells) (made_is result.answer) (after result.heap slots scalars list directory cells) }
+    requires { Good (state heap slots.old scalars.old list.now directory.now cells.now) }
+    ensures { Performs (Calls.new_iter source) (state heap slots.old scalars.old list.now directory.now cells.now) (made_is result.answer) (state result.heap slots.new scalars.new list.now directory.now cells.now) }
 {
     match heap_slots::find(slots, heap.fresh, source) {
         FoundSlot::Nil => Made {

@@ -7,7 +7,7 @@ ghost use Rattle.map_store.specs.Map as Map;
 ghost use Rattle.heap_cells.specs.Regions.{region_of};
 ghost use Rattle.model.specs.Calls as Calls;
 ghost use Rattle.heap.specs.Answers.{done_is, made_is};
-ghost use Rattle.heap.specs.State.{after, before, lent};
+ghost use Rattle.heap.specs.State.{state};
 ghost use Rattle.heap.specs.Good.{Good};
 ghost use Rattle.heap.specs.Promise.{Performs};
 ghost use Rattle.heap.proofs.ReachLaws.{Target};
@@ -120,9 +120,9 @@ fn insertion_of(
     i: usize,
     key: u64,
 ) -> Insertion
-    requires good { Good (lent heap slots scalars list directory cells) }
-    requires map { IsMap (lent heap slots scalars list directory cells) i }
-    ensures { InsertAsks (before heap slots scalars list directory cells) i key result }
+    requires good { Good (state heap slots.now scalars.now list.now directory.now cells.now) }
+    requires map { IsMap (state heap slots.now scalars.now list.now directory.now cells.now) i }
+    ensures { InsertAsks (state heap slots.now scalars.now list.now directory.now cells.now) i key result }
 {
     let h = heap_slots::read_header(slots, i);
     let x = heap_slots::read_map(scalars, i);
@@ -157,10 +157,10 @@ fn insert_grown(
     value: u64,
     size: u64,
 ) -> Top
-    requires good { Good (lent heap slots scalars list directory cells) }
-    requires ready { Ready (lent heap slots scalars list directory cells) i s (room_after traced key s (cells_at (lent heap slots scalars list directory cells) i)) size }
+    requires good { Good (state heap slots.old scalars.old list.now directory.old cells.old) }
+    requires ready { Ready (state heap slots.old scalars.old list.now directory.old cells.old) i s (room_after traced key s (cells_at (state heap slots.old scalars.old list.now directory.old cells.old) i)) size }
     requires number { s.fresh < 4294967296 }
-    ensures { Rewritten (before heap slots scalars list directory cells) i size s (Maps.inserted traced hash key value) (room_after traced key s (cells_at (before heap slots scalars list directory cells) i)) result (after heap slots scalars list directory cells) }
+    ensures { Rewritten (state heap slots.old scalars.old list.now directory.old cells.old) i size s (Maps.inserted traced hash key value) (room_after traced key s (cells_at (state heap slots.old scalars.old list.now directory.old cells.old) i)) result (state heap slots.new scalars.new list.now directory.new cells.new) }
 {
     let top = longer(heap, slots, scalars, list, directory, cells, i, size);
     let h = heap_slots::read_header(slots, i);
@@ -182,9 +182,9 @@ fn insert_at(
     key: u64,
     value: u64,
 ) -> Changed
-    requires good { Good (lent heap slots scalars list directory cells) }
-    requires map { IsMap (lent heap slots scalars list directory cells) i }
-    ensures { Inserts (before heap slots scalars list directory cells) i hash key value (done_is result.done) (after (changed_heap heap result) slots scalars list directory cells) }
+    requires good { Good (state heap slots.old scalars.old list.now directory.old cells.old) }
+    requires map { IsMap (state heap slots.old scalars.old list.now directory.old cells.old) i }
+    ensures { Inserts (state heap slots.old scalars.old list.now directory.old cells.old) i hash key value (done_is result.done) (state (changed_heap heap result) slots.new scalars.new list.now directory.new cells.new) }
 {
     let p = insertion_of(heap, slots, scalars, list, directory, cells, i, key);
     let s = p.map;
@@ -221,9 +221,9 @@ fn removal_of(
     cells: &[u64],
     i: usize,
 ) -> Removal
-    requires good { Good (lent heap slots scalars list directory cells) }
-    requires map { IsMap (lent heap slots scalars list directory cells) i }
-    ensures { RemoveAsks (before heap slots scalars list directory cells) i result }
+    requires good { Good (state heap slots.now scalars.now list.now directory.now cells.now) }
+    requires map { IsMap (state heap slots.now scalars.now list.now directory.now cells.now) i }
+    ensures { RemoveAsks (state heap slots.now scalars.now list.now directory.now cells.now) i result }
 {
     let h = heap_slots::read_header(slots, i);
     let x = heap_slots::read_map(scalars, i);
@@ -249,9 +249,9 @@ fn remove_grown(
     pos: usize,
     size: u64,
 ) -> Top
-    requires good { Good (lent heap slots scalars list directory cells) }
-    requires ready { Ready (lent heap slots scalars list directory cells) i s (room_without s (cells_at (lent heap slots scalars list directory cells) i)) size }
-    ensures { Rewritten (before heap slots scalars list directory cells) i size s (Maps.removed_at pos) (room_without s (cells_at (before heap slots scalars list directory cells) i)) result (after heap slots scalars list directory cells) }
+    requires good { Good (state heap slots.old scalars.old list.now directory.old cells.old) }
+    requires ready { Ready (state heap slots.old scalars.old list.now directory.old cells.old) i s (room_without s (cells_at (state heap slots.old scalars.old list.now directory.old cells.old) i)) size }
+    ensures { Rewritten (state heap slots.old scalars.old list.now directory.old cells.old) i size s (Maps.removed_at pos) (room_without s (cells_at (state heap slots.old scalars.old list.now directory.old cells.old) i)) result (state heap slots.new scalars.new list.now directory.new cells.new) }
 {
     let top = longer(heap, slots, scalars, list, directory, cells, i, size);
     let h = heap_slots::read_header(slots, i);
@@ -271,9 +271,9 @@ fn remove_place(
     i: usize,
     pos: usize,
 ) -> Changed
-    requires good { Good (lent heap slots scalars list directory cells) }
-    requires map { IsMap (lent heap slots scalars list directory cells) i }
-    ensures { Removes (before heap slots scalars list directory cells) i pos (done_is result.done) (after (changed_heap heap result) slots scalars list directory cells) }
+    requires good { Good (state heap slots.old scalars.old list.now directory.old cells.old) }
+    requires map { IsMap (state heap slots.old scalars.old list.now directory.old cells.old) i }
+    ensures { Removes (state heap slots.old scalars.old list.now directory.old cells.old) i pos (done_is result.done) (state (changed_heap heap result) slots.new scalars.new list.now directory.new cells.new) }
 {
     let p = removal_of(heap, slots, scalars, list, directory, cells, i);
     if (cells.len() as u64) - heap.taken < p.more {
@@ -304,8 +304,8 @@ pub fn set_value(
     pos: u64,
     v: u64,
 ) -> Done
-    requires { Good (lent heap slots scalars list directory cells) }
-    ensures { Performs (Calls.set_value w pos v) (before heap slots scalars list directory cells) (done_is result) (after heap slots scalars list directory cells) }
+    requires { Good (state heap slots.now scalars.now list.now directory.now cells.old) }
+    ensures { Performs (Calls.set_value w pos v) (state heap slots.now scalars.now list.now directory.now cells.old) (done_is result) (state heap slots.now scalars.now list.now directory.now cells.new) }
 {
     match lookup::locate(slots, heap.fresh, w, kinds::MAP) {
         Located::Refused(q) => Done::Refused(q),
@@ -329,8 +329,8 @@ pub fn note(
     w: u64,
     k: i64,
 ) -> Done
-    requires { Good (lent heap slots scalars list directory cells) }
-    ensures { Performs (Calls.note w k) (before heap slots scalars list directory cells) (done_is result) (after heap slots scalars list directory cells) }
+    requires { Good (state heap slots.old scalars.old list.now directory.now cells.now) }
+    ensures { Performs (Calls.note w k) (state heap slots.old scalars.old list.now directory.now cells.now) (done_is result) (state heap slots.new scalars.new list.now directory.now cells.now) }
 {
     match lookup::locate(slots, heap.fresh, w, kinds::MAP) {
         Located::Refused(q) => Done::Refused(q),
@@ -355,8 +355,8 @@ fn insert_entry_change(
     key: u64,
     value: u64,
 ) -> Changed
-    requires { Good (lent heap slots scalars list directory cells) }
-    ensures { Performs (Calls.insert_entry w hash key value) (before heap slots scalars list directory cells) (done_is result.done) (after (changed_heap heap result) slots scalars list directory cells) }
+    requires { Good (state heap slots.old scalars.old list.now directory.old cells.old) }
+    ensures { Performs (Calls.insert_entry w hash key value) (state heap slots.old scalars.old list.now directory.old cells.old) (done_is result.done) (state (changed_heap heap result) slots.new scalars.new list.now directory.new cells.new) }
 {
     match lookup::locate(slots, heap.fresh, w, kinds::MAP) {
         Located::Refused(q) => unchanged(heap, Done::Refused(q)),
@@ -379,8 +379,8 @@ pub fn insert_entry(
     key: u64,
     value: u64,
 ) -> Settled
-    requires { Good (lent heap slots scalars list directory cells) }
-    ensures { Performs (Calls.insert_entry w hash key value) (before heap slots scalars list directory cells) (done_is result.done) (after result.heap slots scalars list directory cells) }
+    requires { Good (state heap slots.old scalars.old list.now directory.old cells.old) }
+    ensures { Performs (Calls.insert_entry w hash key value) (state heap slots.old scalars.old list.now directory.old cells.old) (done_is result.done) (state result.heap slots.new scalars.new list.now directory.new cells.new) }
 {
     let c = insert_entry_change(
         heap, slots, scalars, list, directory, cells, w, hash, key, value,
@@ -402,9 +402,9 @@ fn put_at(
     key: u64,
     value: u64,
 ) -> Changed
-    requires good { Good (lent heap slots scalars list directory cells) }
-    requires map { Target (lent heap slots scalars list directory cells) w i MAP }
-    ensures { Performs (Calls.put w hash key value) (before heap slots scalars list directory cells) (done_is result.done) (after (changed_heap heap result) slots scalars list directory cells) }
+    requires good { Good (state heap slots.old scalars.old list.now directory.old cells.old) }
+    requires map { Target (state heap slots.old scalars.old list.now directory.old cells.old) w i MAP }
+    ensures { Performs (Calls.put w hash key value) (state heap slots.old scalars.old list.now directory.old cells.old) (done_is result.done) (state (changed_heap heap result) slots.new scalars.new list.now directory.new cells.new) }
 {
     let h = heap_slots::read_header(slots, i);
     let x = heap_slots::read_map(scalars, i);
@@ -437,8 +437,8 @@ fn put_change(
     key: u64,
     value: u64,
 ) -> Changed
-    requires { Good (lent heap slots scalars list directory cells) }
-    ensures { Performs (Calls.put w hash key value) (before heap slots scalars list directory cells) (done_is result.done) (after (changed_heap heap result) slots scalars list directory cells) }
+    requires { Good (state heap slots.old scalars.old list.now directory.old cells.old) }
+    ensures { Performs (Calls.put w hash key value) (state heap slots.old scalars.old list.now directory.old cells.old) (done_is result.done) (state (changed_heap heap result) slots.new scalars.new list.now directory.new cells.new) }
 {
     match lookup::locate(slots, heap.fresh, w, kinds::MAP) {
         Located::Refused(q) => unchanged(heap, Done::Refused(q)),
@@ -461,8 +461,8 @@ pub fn put(
     key: u64,
     value: u64,
 ) -> Settled
-    requires { Good (lent heap slots scalars list directory cells) }
-    ensures { Performs (Calls.put w hash key value) (before heap slots scalars list directory cells) (done_is result.done) (after result.heap slots scalars list directory cells) }
+    requires { Good (state heap slots.old scalars.old list.now directory.old cells.old) }
+    ensures { Performs (Calls.put w hash key value) (state heap slots.old scalars.old list.now directory.old cells.old) (done_is result.done) (state result.heap slots.new scalars.new list.now directory.new cells.new) }
 {
     let c = put_change(
         heap, slots, scalars, list, directory, cells, w, hash, key, value,
@@ -480,8 +480,8 @@ fn remove_at_change(
     w: u64,
     pos: u64,
 ) -> Changed
-    requires { Good (lent heap slots scalars list directory cells) }
-    ensures { Performs (Calls.remove_at w pos) (before heap slots scalars list directory cells) (done_is result.done) (after (changed_heap heap result) slots scalars list directory cells) }
+    requires { Good (state heap slots.old scalars.old list.now directory.old cells.old) }
+    ensures { Performs (Calls.remove_at w pos) (state heap slots.old scalars.old list.now directory.old cells.old) (done_is result.done) (state (changed_heap heap result) slots.new scalars.new list.now directory.new cells.new) }
 {
     match lookup::locate(slots, heap.fresh, w, kinds::MAP) {
         Located::Refused(q) => unchanged(heap, Done::Refused(q)),
@@ -509,8 +509,8 @@ pub fn remove_at(
     w: u64,
     pos: u64,
 ) -> Settled
-    requires { Good (lent heap slots scalars list directory cells) }
-    ensures { Performs (Calls.remove_at w pos) (before heap slots scalars list directory cells) (done_is result.done) (after result.heap slots scalars list directory cells) }
+    requires { Good (state heap slots.old scalars.old list.now directory.old cells.old) }
+    ensures { Performs (Calls.remove_at w pos) (state heap slots.old scalars.old list.now directory.old cells.old) (done_is result.done) (state result.heap slots.new scalars.new list.now directory.new cells.new) }
 {
     let c = remove_at_change(heap, slots, scalars, list, directory, cells, w, pos);
     settle(heap, c)
@@ -529,9 +529,9 @@ fn remove_found(
     hash: u64,
     key: u64,
 ) -> Changed
-    requires good { Good (lent heap slots scalars list directory cells) }
-    requires map { Target (lent heap slots scalars list directory cells) w i MAP }
-    ensures { Performs (Calls.remove w hash key) (before heap slots scalars list directory cells) (done_is result.done) (after (changed_heap heap result) slots scalars list directory cells) }
+    requires good { Good (state heap slots.old scalars.old list.now directory.old cells.old) }
+    requires map { Target (state heap slots.old scalars.old list.now directory.old cells.old) w i MAP }
+    ensures { Performs (Calls.remove w hash key) (state heap slots.old scalars.old list.now directory.old cells.old) (done_is result.done) (state (changed_heap heap result) slots.new scalars.new list.now directory.new cells.new) }
 {
     let h = heap_slots::read_header(slots, i);
     let x = heap_slots::read_map(scalars, i);
@@ -561,8 +561,8 @@ fn remove_change(
     hash: u64,
     key: u64,
 ) -> Changed
-    requires { Good (lent heap slots scalars list directory cells) }
-    ensures { Performs (Calls.remove w hash key) (before heap slots scalars list directory cells) (done_is result.done) (after (changed_heap heap result) slots scalars list directory cells) }
+    requires { Good (state heap slots.old scalars.old list.now directory.old cells.old) }
+    ensures { Performs (Calls.remove w hash key) (state heap slots.old scalars.old list.now directory.old cells.old) (done_is result.done) (state (changed_heap heap result) slots.new scalars.new list.now directory.new cells.new) }
 {
     match lookup::locate(slots, heap.fresh, w, kinds::MAP) {
         Located::Refused(q) => unchanged(heap, Done::Refused(q)),
@@ -584,8 +584,8 @@ pub fn remove(
     hash: u64,
     key: u64,
 ) -> Settled
-    requires { Good (lent heap slots scalars list directory cells) }
-    ensures { Performs (Calls.remove w hash key) (before heap slots scalars list directory cells) (done_is result.done) (after result.heap slots scalars list directory cells) }
+    requires { Good (state heap slots.old scalars.old list.now directory.old cells.old) }
+    ensures { Performs (Calls.remove w hash key) (state heap slots.old scalars.old list.now directory.old cells.old) (done_is result.done) (state result.heap slots.new scalars.new list.now directory.new cells.new) }
 {
     let c = remove_change(heap, slots, scalars, list, directory, cells, w, hash, key);
     settle(heap, c)
@@ -602,8 +602,8 @@ pub fn new_map(
     keys: u64,
     values: u64,
 ) -> Made
-    requires { Good (lent heap slots scalars list directory cells) }
-    ensures { Performs (Calls.new_map keys values) (before heap slots scalars list directory cells) (made_is result.answer) (after result.heap slots scalars list directory cells) }
+    requires { Good (state heap slots.old scalars.old list.now directory.now cells.now) }
+    ensures { Performs (Calls.new_map keys values) (state heap slots.old scalars.old list.now directory.now cells.now) (made_is result.answer) (state result.heap slots.new scalars.new list.now directory.now cells.now) }
 {
     if 2 < keys {
         return Made {

@@ -1,4 +1,6 @@
 // Maps: readings, entries added, changed and removed, the cursor.
+#![tactic(auto)]
+
 pub mod changes;
 pub mod readings;
 
@@ -6,7 +8,7 @@ ghost use Rattle.std.specs.Prelude.{◌*◌};
 ghost use Rattle.heap_slots.specs.Kinds.{MAP};
 ghost use Rattle.map_store.specs.View.{cursor_is};
 ghost use Rattle.model.specs.Calls as Calls;
-ghost use Rattle.heap.specs.State.{after, before, lent};
+ghost use Rattle.heap.specs.State.{state};
 ghost use Rattle.heap.specs.Good.{Good};
 ghost use Rattle.heap.specs.Promise.{Reads};
 ghost use Rattle.collections_maps.specs.Answers.{step_seen, lent_seen};
@@ -17,7 +19,7 @@ use heap_slots::kinds;
 use map_store::{Cursor, MapStore};
 
 // A map's greatest noted key.
-#[derive(Drop)]
+#[derive(Clone, Copy)]
 pub enum Noted {
     Is(i64),
     Nothing,
@@ -25,35 +27,35 @@ pub enum Noted {
 }
 
 // The integer key after it.
-#[derive(Drop)]
+#[derive(Clone, Copy)]
 pub enum NextInt {
     Is(i64),
     Past,
     Refused(Refusal),
 }
 
-#[derive(Drop)]
+#[derive(Clone, Copy)]
 pub enum EntryRead {
     Is(map_store::Stored),
     Refused(Refusal),
 }
 
 // A cursor's step by value: the position and the cursor afterwards.
-#[derive(Drop)]
+#[derive(Clone, Copy)]
 pub enum Moved {
     Is(map_store::Stepped),
     Refused(Refusal),
 }
 
 // What a step leaves in a lent cursor, and the answer.
-#[derive(Drop)]
+#[derive(Clone, Copy)]
 struct Lent {
     cursor: Cursor,
     answer: Perhaps,
 }
 
 // What an insertion into a map asks: the bytes that it is charged, the cells that the map then has, and how many more these are.
-#[derive(Drop)]
+#[derive(Clone, Copy)]
 pub struct Insertion {
     pub map: MapStore,
     pub bytes: u64,
@@ -63,7 +65,7 @@ pub struct Insertion {
 }
 
 // What a removal from a map asks: the cells that the map then has, and how many more these are.
-#[derive(Drop)]
+#[derive(Clone, Copy)]
 pub struct Removal {
     pub map: MapStore,
     pub size: u64,
@@ -81,8 +83,8 @@ pub fn step_cursor(
     w: u64,
     c: Cursor,
 ) -> Moved
-    requires { Good (lent heap slots scalars list directory cells) }
-    ensures { Reads (Calls.next w (cursor_is c)) (before heap slots scalars list directory cells) (step_seen (cursor_is c) result) }
+    requires { Good (state heap slots.now scalars.now list.now directory.now cells.now) }
+    ensures { Reads (Calls.next w (cursor_is c)) (state heap slots.now scalars.now list.now directory.now cells.now) (step_seen (cursor_is c) result) }
 {
     match lookup::locate(slots, heap.fresh, w, kinds::MAP) {
         Located::Refused(q) => Moved::Refused(q),
@@ -105,8 +107,8 @@ fn step_lent(
     w: u64,
     c: Cursor,
 ) -> Lent
-    requires { Good (lent heap slots scalars list directory cells) }
-    ensures { Reads (Calls.next w (cursor_is c)) (before heap slots scalars list directory cells) (lent_seen (cursor_is result.cursor) result.answer) }
+    requires { Good (state heap slots.now scalars.now list.now directory.now cells.now) }
+    ensures { Reads (Calls.next w (cursor_is c)) (state heap slots.now scalars.now list.now directory.now cells.now) (lent_seen (cursor_is result.cursor) result.answer) }
 {
     match step_cursor(heap, slots, scalars, list, directory, cells, w, c) {
         Moved::Refused(q) => Lent {
@@ -141,8 +143,8 @@ pub fn next(
     w: u64,
     cursor: &mut Cursor,
 ) -> Perhaps
-    requires { Good (lent heap slots scalars list directory cells) }
-    ensures { Reads (Calls.next w (cursor_is cursor.old)) (before heap slots scalars list directory cells) (lent_seen (cursor_is cursor.new) result) }
+    requires { Good (state heap slots.now scalars.now list.now directory.now cells.now) }
+    ensures { Reads (Calls.next w (cursor_is cursor.old)) (state heap slots.now scalars.now list.now directory.now cells.now) (lent_seen (cursor_is cursor.new) result) }
 {
     let s = step_lent(heap, slots, scalars, list, directory, cells, w, *cursor);
     *cursor = s.cursor;

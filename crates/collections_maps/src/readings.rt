@@ -4,7 +4,7 @@ ghost use Rattle.heap_slots.specs.Kinds.{MAP};
 ghost use Rattle.layout.specs.Layout.{is_traced};
 ghost use Rattle.model.specs.Calls as Calls;
 ghost use Rattle.heap.specs.Answers.{reading_is, test_is};
-ghost use Rattle.heap.specs.State.{after, before, lent};
+ghost use Rattle.heap.specs.State.{state};
 ghost use Rattle.heap.specs.Good.{Good};
 ghost use Rattle.heap.specs.Promise.{Reads};
 ghost use Rattle.collections_growth.specs.Answers.{perhaps_is};
@@ -31,8 +31,8 @@ pub fn live_count(
     cells: &[u64],
     w: u64,
 ) -> Reading
-    requires { Good (lent heap slots scalars list directory cells) }
-    ensures { Reads (Calls.live_count w) (before heap slots scalars list directory cells) (reading_is result) }
+    requires { Good (state heap slots.now scalars.now list.now directory.now cells.now) }
+    ensures { Reads (Calls.live_count w) (state heap slots.now scalars.now list.now directory.now cells.now) (reading_is result) }
 {
     match lookup::locate(slots, heap.fresh, w, kinds::MAP) {
         Located::Refused(q) => Reading::Refused(q),
@@ -53,8 +53,8 @@ pub fn place_count(
     cells: &[u64],
     w: u64,
 ) -> Reading
-    requires { Good (lent heap slots scalars list directory cells) }
-    ensures { Reads (Calls.place_count w) (before heap slots scalars list directory cells) (reading_is result) }
+    requires { Good (state heap slots.now scalars.now list.now directory.now cells.now) }
+    ensures { Reads (Calls.place_count w) (state heap slots.now scalars.now list.now directory.now cells.now) (reading_is result) }
 {
     match lookup::locate(slots, heap.fresh, w, kinds::MAP) {
         Located::Refused(q) => Reading::Refused(q),
@@ -75,8 +75,8 @@ pub fn is_hashed(
     cells: &[u64],
     w: u64,
 ) -> Test
-    requires { Good (lent heap slots scalars list directory cells) }
-    ensures { Reads (Calls.is_hashed w) (before heap slots scalars list directory cells) (test_is result) }
+    requires { Good (state heap slots.now scalars.now list.now directory.now cells.now) }
+    ensures { Reads (Calls.is_hashed w) (state heap slots.now scalars.now list.now directory.now cells.now) (test_is result) }
 {
     match lookup::locate(slots, heap.fresh, w, kinds::MAP) {
         Located::Refused(q) => Test::Refused(q),
@@ -97,8 +97,8 @@ pub fn key_type(
     cells: &[u64],
     w: u64,
 ) -> Reading
-    requires { Good (lent heap slots scalars list directory cells) }
-    ensures { Reads (Calls.key_type w) (before heap slots scalars list directory cells) (reading_is result) }
+    requires { Good (state heap slots.now scalars.now list.now directory.now cells.now) }
+    ensures { Reads (Calls.key_type w) (state heap slots.now scalars.now list.now directory.now cells.now) (reading_is result) }
 {
     match lookup::locate(slots, heap.fresh, w, kinds::MAP) {
         Located::Refused(q) => Reading::Refused(q),
@@ -119,8 +119,8 @@ pub fn value_type(
     cells: &[u64],
     w: u64,
 ) -> Reading
-    requires { Good (lent heap slots scalars list directory cells) }
-    ensures { Reads (Calls.value_type w) (before heap slots scalars list directory cells) (reading_is result) }
+    requires { Good (state heap slots.now scalars.now list.now directory.now cells.now) }
+    ensures { Reads (Calls.value_type w) (state heap slots.now scalars.now list.now directory.now cells.now) (reading_is result) }
 {
     match lookup::locate(slots, heap.fresh, w, kinds::MAP) {
         Located::Refused(q) => Reading::Refused(q),
@@ -141,8 +141,8 @@ pub fn map_epoch(
     cells: &[u64],
     w: u64,
 ) -> Reading
-    requires { Good (lent heap slots scalars list directory cells) }
-    ensures { Reads (Calls.map_epoch w) (before heap slots scalars list directory cells) (reading_is result) }
+    requires { Good (state heap slots.now scalars.now list.now directory.now cells.now) }
+    ensures { Reads (Calls.map_epoch w) (state heap slots.now scalars.now list.now directory.now cells.now) (reading_is result) }
 {
     match lookup::locate(slots, heap.fresh, w, kinds::MAP) {
         Located::Refused(q) => Reading::Refused(q),
@@ -163,8 +163,8 @@ pub fn next_sequence(
     cells: &[u64],
     w: u64,
 ) -> Reading
-    requires { Good (lent heap slots scalars list directory cells) }
-    ensures { Reads (Calls.next_sequence w) (before heap slots scalars list directory cells) (reading_is result) }
+    requires { Good (state heap slots.now scalars.now list.now directory.now cells.now) }
+    ensures { Reads (Calls.next_sequence w) (state heap slots.now scalars.now list.now directory.now cells.now) (reading_is result) }
 {
     match lookup::locate(slots, heap.fresh, w, kinds::MAP) {
         Located::Refused(q) => Reading::Refused(q),
@@ -185,8 +185,8 @@ pub fn entry_capacity(
     cells: &[u64],
     w: u64,
 ) -> Reading
-    requires { Good (lent heap slots scalars list directory cells) }
-    ensures { Reads (Calls.entry_capacity w) (before heap slots scalars list directory cells) (reading_is result) }
+    requires { Good (state heap slots.now scalars.now list.now directory.now cells.now) }
+    ensures { Reads (Calls.entry_capacity w) (state heap slots.now scalars.now list.now directory.now cells.now) (reading_is result) }
 {
     match lookup::locate(slots, heap.fresh, w, kinds::MAP) {
         Located::Refused(q) => Reading::Refused(q),
@@ -207,8 +207,8 @@ pub fn index_length(
     cells: &[u64],
     w: u64,
 ) -> Reading
-    requires { Good (lent heap slots scalars list directory cells) }
-    ensures { Reads (Calls.index_length w) (before heap slots scalars list directory cells) (reading_is result) }
+    requires { Good (state heap slots.now scalars.now list.now directory.now cells.now) }
+    ensures { Reads (Calls.index_length w) (state heap slots.now scalars.now list.now directory.now cells.now) (reading_is result) }
 {
     match lookup::locate(slots, heap.fresh, w, kinds::MAP) {
         Located::Refused(q) => Reading::Refused(q),
@@ -229,8 +229,8 @@ pub fn noted_key(
     cells: &[u64],
     w: u64,
 ) -> Noted
-    requires { Good (lent heap slots scalars list directory cells) }
-    ensures { Reads (Calls.noted_key w) (before heap slots scalars list directory cells) (noted_seen result) }
+    requires { Good (state heap slots.now scalars.now list.now directory.now cells.now) }
+    ensures { Reads (Calls.noted_key w) (state heap slots.now scalars.now list.now directory.now cells.now) (noted_seen result) }
 {
     match lookup::locate(slots, heap.fresh, w, kinds::MAP) {
         Located::Refused(q) => Noted::Refused(q),
@@ -254,8 +254,8 @@ pub fn next_key(
     cells: &[u64],
     w: u64,
 ) -> NextInt
-    requires { Good (lent heap slots scalars list directory cells) }
-    ensures { Reads (Calls.next_key w) (before heap slots scalars list directory cells) (next_seen result) }
+    requires { Good (state heap slots.now scalars.now list.now directory.now cells.now) }
+    ensures { Reads (Calls.next_key w) (state heap slots.now scalars.now list.now directory.now cells.now) (next_seen result) }
 {
     match lookup::locate(slots, heap.fresh, w, kinds::MAP) {
         Located::Refused(q) => NextInt::Refused(q),
@@ -281,8 +281,8 @@ pub fn growth_bytes(
     w: u64,
     key: u64,
 ) -> Reading
-    requires { Good (lent heap slots scalars list directory cells) }
-    ensures { Reads (Calls.growth_bytes w key) (before heap slots scalars list directory cells) (reading_is result) }
+    requires { Good (state heap slots.now scalars.now list.now directory.now cells.now) }
+    ensures { Reads (Calls.growth_bytes w key) (state heap slots.now scalars.now list.now directory.now cells.now) (reading_is result) }
 {
     match lookup::locate(slots, heap.fresh, w, kinds::MAP) {
         Located::Refused(q) => Reading::Refused(q),
@@ -313,8 +313,8 @@ pub fn find(
     hash: u64,
     key: u64,
 ) -> Perhaps
-    requires { Good (lent heap slots scalars list directory cells) }
-    ensures { Reads (Calls.find w hash key) (before heap slots scalars list directory cells) (perhaps_is result) }
+    requires { Good (state heap slots.now scalars.now list.now directory.now cells.now) }
+    ensures { Reads (Calls.find w hash key) (state heap slots.now scalars.now list.now directory.now cells.now) (perhaps_is result) }
 {
     match lookup::locate(slots, heap.fresh, w, kinds::MAP) {
         Located::Refused(q) => Perhaps::Refused(q),
@@ -340,8 +340,8 @@ pub fn read_entry(
     w: u64,
     pos: u64,
 ) -> EntryRead
-    requires { Good (lent heap slots scalars list directory cells) }
-    ensures { Reads (Calls.read_entry w pos) (before heap slots scalars list directory cells) (entry_seen result) }
+    requires { Good (state heap slots.now scalars.now list.now directory.now cells.now) }
+    ensures { Reads (Calls.read_entry w pos) (state heap slots.now scalars.now list.now directory.now cells.now) (entry_seen result) }
 {
     match lookup::locate(slots, heap.fresh, w, kinds::MAP) {
         Located::Refused(q) => EntryRead::Refused(q),

@@ -1,15 +1,15 @@
 -- The heap after a collection: the model's, and good again.
-use Prim.Native.Nat.{ℕ, zero, suc, ◌+◌, ◌-◌, ◌*◌, ◌/◌, ◌%◌, ◌≤◌, ◌<◌}
+use Prim.Native.Nat.{ℕ, zero, suc, ◌+◌, ◌*◌, ◌%◌, ◌≤◌, ◌<◌}
 use mathlib.Core.Path.{◌≡◌, refl, sym, ap, ◌∙◌, fun_ext}
 use mathlib.Core.Logic.{◌≢◌, ◌↔◌}
-use mathlib.Core.Bool.{Bool, true, false, cond, ◌&&◌, not}
-use mathlib.Core.List.{List, [], ◌∷◌, ◌++◌}
+use mathlib.Core.Bool.{Bool, true, false, cond, not}
+use mathlib.Core.List.{List}
 use mathlib.Core.Option.{Option, none, some}
 use native.Mathlib.Omega.{arith}
 use native.Mathlib.Numerals.{add-one}
 use native.Mathlib.Decide.{ℕ_discrete, dec_lt}
 use lib.Dec.{eqb, leb}
-use lib.ListN.{length, get_or, take, drop}
+use lib.ListN.{length, get_or}
 use borrow.Author.Tests.{eq-eqb, ne_eqb, lt-leb}
 use Rattle.heap_slots.specs.Limits.{BOX_HALF, GENERATIONS, LAST_GENERATION, SLOT_WORDS, SLOTS_MAX}
 use Rattle.heap_slots.specs.Header.{header_at, scalars_at}
@@ -22,10 +22,10 @@ use Rattle.account.specs.Account.{after_sweep, saturated}
 use Rattle.layout.specs.Layout.{Layout}
 use Rattle.model.specs.Reference.{word}
 use Rattle.model.specs.Content.{Content, finalize}
-use Rattle.model.specs.View.{View, mem, reference_of}
+use Rattle.model.specs.View.{View, mem}
 use Rattle.model.specs.Slots as Slots
 use Rattle.model.specs.Slots.{Slot, SlotTable, Object, one, free_list_after, slot_after, slot_to, freed_slot, drops, drops_object, rewritten}
-use Rattle.model.specs.Model.{Model, view_of, weight_in, weights_kept}
+use Rattle.model.specs.Model.{view_of, weight_in, weights_kept}
 use Rattle.model.specs.Kept.{finalizable, kept, settled, swept}
 use Rattle.heap.specs.Kinds.{content_of, room_of, object_of}
 use Rattle.heap.specs.State.{State, raw_of, more_of, slot_of, slot_from, model_of, unused}
@@ -35,8 +35,8 @@ use Rattle.heap.proofs.KindLaws.{object-none, object-some}
 use Rattle.heap.proofs.SlotLaws.{slot-used, slot-unused, raw-length}
 use Rattle.collector_marking.specs.Reach.{Marked}
 use Rattle.collector_marking.specs.Children.{word_at}
-use Rattle.collector_marking.proofs.Bridge.{live_at, named_word}
-use Rattle.collector_finalizing.specs.Dropped.{dropped_words, marks_reached, marks_kept, finalized_in, is_dropped}
+use Rattle.collector_marking.proofs.Bridge.{named_word}
+use Rattle.collector_finalizing.specs.Dropped.{dropped_words, marks_kept, finalized_in}
 use Rattle.collector_finalizing.proofs.Found.{dropped-finalizable, kept_marked, dropped-kind}
 use Rattle.collector_finalizing.proofs.Finalized.{flagged, names_mem, finalized-at, finalized-length, dropped_owned, dropped-mem}
 use Rattle.collector.specs.declared.Tally.{Tally}

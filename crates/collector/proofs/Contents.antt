@@ -1,20 +1,18 @@
 -- What the model has of the objects that a collection keeps: their weights, and F finalized.
-use Prim.Native.Nat.{ℕ, zero, suc, ◌+◌, ◌-◌, ◌*◌, ◌/◌, ◌%◌, ◌≤◌, ◌<◌}
-use mathlib.Core.Path.{◌≡◌, refl, sym, ap, ◌∙◌}
-use mathlib.Core.Logic.{◌≢◌}
-use mathlib.Core.Bool.{Bool, true, false, cond, not}
+use Prim.Native.Nat.{ℕ, ◌+◌, ◌≤◌}
+use mathlib.Core.Path.{◌≡◌, refl, ap}
+use mathlib.Core.Bool.{Bool, true, false, cond}
 use mathlib.Core.List.{List}
-use mathlib.Core.Option.{Option, none, some}
 use native.Mathlib.Omega.{arith}
 use native.Mathlib.Decide.{ℕ_discrete}
 use lib.Dec.{eqb}
-use lib.ListN.{length, take, drop}
+use lib.ListN.{length, drop}
 use borrow.Author.Tests.{eq-eqb, ne_eqb}
 use Rattle.heap_slots.specs.Header.{with_scalar}
 use Rattle.heap_slots.specs.declared.Header.{Header}
 use Rattle.heap_slots.specs.declared.Scalars.{Scalars}
 use Rattle.heap_cells.specs.Regions.{RawSlot, raw_of}
-use Rattle.model.specs.Content.{Content, bytes_of, finalize}
+use Rattle.model.specs.Content.{bytes_of, finalize}
 use Rattle.model.specs.Model.{weight_in}
 use Rattle.model.specs.declared.Weights.{Weights}
 use Rattle.heap.specs.Kinds.{LAST_ROW, content_of, room_of, object_of}
@@ -22,7 +20,7 @@ use Rattle.heap.specs.Good.{SlotGood}
 use Rattle.heap.proofs.GoodLaws.{good-kept, holds_as}
 use Rattle.heap.proofs.KindLaws.{by_row, content-string, content-integer, content-cell, content-error, content-box, content-array, content-map, content-struct, content-function, content-iterator, content-coroutine, room-array, room-map, object-none, object-some, length-bytes_from, length-frames_in, words-length}
 use Rattle.collector_finalizing.proofs.Finalized.{flagged}
-use Rattle.collector.specs.Sweep.{bytes_at, weight_at, Weighable}
+use Rattle.collector.specs.Sweep.{bytes_at, weight_at}
 
 module _ (w : Weights) (h : Header) (c : List ℕ) (y : Scalars) (g : SlotGood (raw_of h c) y) (full : length c ≡ h.size) where
   abbrev r : RawSlot

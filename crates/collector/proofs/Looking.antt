@@ -1,13 +1,11 @@
 -- One slot of the sweep.
-use Prim.Native.Nat.{ℕ, suc, ◌+◌, ◌*◌, ◌%◌, ◌≤◌, ◌<◌}
+use Prim.Native.Nat.{ℕ, suc, ◌+◌, ◌%◌}
 use mathlib.Core.Path.{◌≡◌, refl, sym, ap, ◌∙◌}
 use mathlib.Core.Logic.{◌≢◌}
 use mathlib.Core.Bool.{cond}
 use mathlib.Core.List.{List}
-use native.Mathlib.Omega.{arith}
 use native.Mathlib.Numerals.{add-one}
-use lib.Dec.{eqb}
-use lib.ListN.{length, get_or, set}
+use lib.ListN.{get_or, set}
 use borrow.Author.Tests.{eq-eqb, ne_eqb}
 use Rattle.heap_slots.specs.Limits.{GENERATIONS, LAST_GENERATION}
 use Rattle.heap_slots.specs.Header.{header_at, scalars_at, set_header}

@@ -1,30 +1,25 @@
 -- A collection does what the model's step says.
-use Prim.Native.Nat.{ℕ, zero, suc, ◌+◌, ◌-◌, ◌*◌, ◌/◌, ◌%◌, ◌≤◌, ◌<◌}
+use Prim.Native.Nat.{ℕ, ◌+◌, ◌≤◌, ◌<◌}
 use mathlib.Core.Path.{◌≡◌, refl, sym, ap, ◌∙◌}
-use mathlib.Core.Logic.{◌≢◌}
-use mathlib.Core.Bool.{Bool, true, false, cond}
-use mathlib.Core.List.{List, [], ◌∷◌, ◌++◌}
+use mathlib.Core.List.{List, ◌++◌}
 use native.Mathlib.Omega.{arith}
-use lib.Dec.{leb}
-use lib.ListN.{length, get_or, take, drop, replicate, length-replicate, get_or-replicate, take-append-drop}
+use lib.ListN.{length, take, drop, replicate, length-replicate, get_or-replicate, take-append-drop}
 use lib.Seq.{ext_get_or, get_or-take, length-take-le}
 use borrow.Author.Tests.{le-leb, lt-leb}
 use Rattle.heap_slots.specs.Limits.{CELLS_MAX, SLOTS_MAX}
 use Rattle.heap_slots.specs.Header.{header_at, scalars_at}
-use Rattle.heap_slots.specs.declared.Header.{Header}
 use Rattle.heap_cells.specs.Regions.{raw_at}
 use Rattle.account.specs.Account.{after_sweep, saturated}
 use Rattle.account.specs.declared.Account.{Account}
 use Rattle.layout.specs.Layout.{Layout}
 use Rattle.model.specs.Calls as Calls
 use Rattle.model.specs.Calls.{effect}
-use Rattle.model.specs.Replies.{collected, list, reply, written}
-use Rattle.model.specs.Slots as Slots
+use Rattle.model.specs.Replies.{list, written}
 use Rattle.model.specs.Model.{view_of}
 use Rattle.model.specs.Kept.{finalizable, kept, swept}
 use Rattle.model.specs.Refusals.{added, budget, first, slotless, unless}
 use Rattle.model.specs.Terms.{terms}
-use Rattle.model.specs.Step.{step, refusal_of}
+use Rattle.model.specs.Step.{refusal_of}
 use Rattle.history.proofs.Lift.{seen, step_sweeps}
 use Rattle.history.proofs.Judging.{no-cells-added, says_none}
 use Rattle.heap.specs.Answers.{number_of}
@@ -32,7 +27,7 @@ use Rattle.heap.specs.declared.Refusal.TheVariants as No
 use Rattle.heap.specs.declared.Heap.{Heap}
 use Rattle.heap.specs.Record.{with_swept}
 use Rattle.heap.specs.State.{State, model_of, state}
-use Rattle.heap.specs.Good.{Good, Rested, SlotGood, filled}
+use Rattle.heap.specs.Good.{Good, Rested, SlotGood}
 use Rattle.heap.specs.Promise.{Does}
 use Rattle.heap.proofs.GoodLaws.{holds_as}
 use Rattle.heap.proofs.DoesLaws.{does-own}

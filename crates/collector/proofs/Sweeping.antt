@@ -1,5 +1,5 @@
 -- The sweep, slot by slot.
-use Prim.Native.Nat.{ℕ, zero, suc, ◌+◌, ◌-◌, ◌*◌, ◌%◌, ◌≤◌, ◌<◌}
+use Prim.Native.Nat.{ℕ, zero, suc, ◌+◌, ◌*◌, ◌%◌, ◌≤◌, ◌<◌}
 use mathlib.Core.Path.{◌≡◌, refl, sym, ap, ◌∙◌}
 use mathlib.Core.Logic.{◌≢◌}
 use mathlib.Core.Bool.{Bool, true, false, ◌&&◌, not}
@@ -17,7 +17,7 @@ use Rattle.heap_slots.proofs.HeaderLaws.{header_at-same, header_at-other, length
 use Rattle.heap_slots.proofs.FreeListLaws.{listed_kept, listed-push, free-push}
 use Rattle.heap_cells.specs.Regions.{sum_to}
 use Rattle.model.specs.Slots as Slots
-use Rattle.model.specs.Slots.{one, free_list_after}
+use Rattle.model.specs.Slots.{free_list_after}
 use Rattle.model.specs.declared.Weights.{Weights}
 use Rattle.heap.specs.Good.{coroutine_of}
 use Rattle.heap.proofs.PlaceLaws.{coroutine-max}

@@ -1,18 +1,12 @@
 -- What an object weighs: by its header, and by the model.
-use Prim.Native.Nat.{ℕ, zero, suc, ◌+◌, ◌-◌, ◌*◌, ◌/◌, ◌%◌, ◌≤◌, ◌<◌}
-use mathlib.Core.Path.{◌≡◌, refl, sym, ap, ◌∙◌}
-use mathlib.Core.Logic.{◌≢◌}
-use mathlib.Core.Bool.{Bool, true, false, cond}
-use mathlib.Core.List.{List}
+use Prim.Native.Nat.{ℕ, ◌+◌, ◌*◌, ◌≤◌}
+use mathlib.Core.Path.{◌≡◌, refl}
 use native.Mathlib.Omega.{arith}
 use native.Mathlib.Nat.{mul-le-mul}
 use native.Mathlib.Decide.{ℕ_discrete}
-use lib.Dec.{eqb}
-use lib.ListN.{length, take, drop}
-use borrow.Author.Tests.{eq-eqb, ne_eqb}
+use borrow.Author.Tests.{ne_eqb}
 use Rattle.heap_slots.specs.Limits.{CELLS_MAX}
 use Rattle.heap_slots.specs.declared.Header.{Header}
-use Rattle.heap_slots.specs.declared.Scalars.{Scalars}
 use Rattle.model.specs.declared.Weights.{Weights}
 use Rattle.heap.specs.Good.{WeightsGood}
 use Rattle.collector.specs.Sweep.{bytes_at, weight_at, Weighable}

@@ -1,6 +1,6 @@
 -- The sweep (document 01, "Kept set": "freed slots are taken from low to high; generation grows by 1, but 32,767 is retired. Used becomes the
 -- kept weights").
-use Rattle.std.specs.Prelude.{ℕ, zero, suc, ◌+◌, ◌*◌, ◌%◌, ◌≤◌, ◌<◌, ◌≡◌, Bool, true, false, cond, ◌&&◌, not, List, ◌≢◌, eqb, length, get_or, set}
+use Rattle.std.specs.Prelude.{ℕ, suc, ◌+◌, ◌*◌, ◌%◌, ◌≤◌, ◌<◌, ◌≡◌, Bool, cond, ◌&&◌, not, List, ◌≢◌, eqb, length, get_or, set}
 use Rattle.heap_slots.specs.Header.{emptied_header, header_at, set_header}
 use Rattle.heap_slots.specs.Kinds.{ARRAY, COROUTINE, FUNCTION, ITERATOR, MAP, NONE, STRING, STRUCT}
 use Rattle.heap_slots.specs.Limits.{CELLS_MAX, GENERATIONS, HALF, LAST_GENERATION, SLOT_WORDS, SLOTS_MAX}

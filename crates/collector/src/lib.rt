@@ -1,10 +1,12 @@
 // A collection (document 01, "Kept set"): what the roots do not reach is freed.
+#![tactic(auto)]
+
 ghost use Rattle.std.specs.Prelude.{◌≡◌, ◌+◌, ◌*◌, ◌≤◌, ◌<◌, length};
 ghost use Rattle.heap_slots.specs.Header.{header_at, scalars_at};
 ghost use Rattle.heap_slots.specs.Limits.{GENERATIONS, HasSlot};
 ghost use Rattle.layout.specs.Sections.{Tabled, layout_of};
 ghost use Rattle.model.specs.Calls as Calls;
-ghost use Rattle.heap.specs.State.{after, before, lent};
+ghost use Rattle.heap.specs.State.{state};
 ghost use Rattle.heap.specs.Good.{Good, Rested, WeightsGood, coroutines_in};
 ghost use Rattle.heap.specs.Promise.{Does};
 ghost use Rattle.collector_marking.specs.Marks.{Sound};
@@ -21,7 +23,7 @@ use heap_slots::{Header, kinds};
 use model::Weights;
 
 // Objects freed and coroutines listed, or the refusal.
-#[derive(Drop)]
+#[derive(Clone, Copy)]
 pub enum Collection {
     Done(u64, u64),
     Refused(Refusal),
@@ -29,7 +31,7 @@ pub enum Collection {
 
 // The free list's length, the slots freed, and of what is kept the weight, the cells, the number and
 // the number of coroutines.
-#[derive(Drop)]
+#[derive(Clone, Copy)]
 pub struct Tally {
     pub free: u64,
     pub freed: u64,
@@ -155,7 +157,7 @@ fn sweep(
 }
 
 // Refused with 8, or the counts and the number of coroutines listed.
-#[derive(Drop)]
+#[derive(Clone, Copy)]
 pub enum Ending {
     Short,
     Swept(Tally, usize),
@@ -201,7 +203,7 @@ fn collect_slots(
     Ending::Swept(t, listed)
 }
 
-#[derive(Drop)]
+#[derive(Clone, Copy)]
 pub struct Collected {
     pub heap: Heap,
     pub answer: Collection,
@@ -224,13 +226,13 @@ pub fn collect(
     roots: &[u64],
     places: &mut [u64],
 ) -> Collected
-    requires good { Good (lent heap slots scalars list directory cells) }
+    requires good { Good (state heap slots.old scalars.old list.old directory.now cells.now) }
     requires tabled { Tabled layout.now table.now }
     requires rested { Rested heap.size marks.old order.old }
     ensures does { Does (layout_of layout.now) (Calls.collect roots.now places.old)
-        (before heap slots scalars list directory cells)
+        (state heap slots.old scalars.old list.old directory.now cells.now)
         (collection_is result.answer places.new)
-        (after result.heap slots scalars list directory cells) }
+        (state result.heap slots.new scalars.new list.new directory.now cells.now) }
     ensures marks_unchanged { marks.new ≡ marks.old }
     ensures order_unchanged { order.new ≡ order.old }
 {

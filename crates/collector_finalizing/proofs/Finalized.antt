@@ -1,24 +1,24 @@
 -- What finalizing leaves of the scalars, and which slots F names.
-use Prim.Native.Nat.{ℕ, zero, suc, ◌+◌, ◌-◌, ◌*◌, ◌/◌, ◌%◌, ◌≤◌, ◌<◌}
+use Prim.Native.Nat.{ℕ, zero, suc, ◌+◌, ◌*◌, ◌%◌, ◌≤◌, ◌<◌}
 use mathlib.Core.Path.{◌≡◌, refl, sym, ap, subst, ◌∙◌}
-use mathlib.Core.Logic.{◌≢◌, ◌⊎◌, inl, inr, ⊎_elim}
-use mathlib.Core.Bool.{Bool, true, false, cond, ◌&&◌}
-use mathlib.Core.List.{List, [], ◌∷◌, ◌++◌}
+use mathlib.Core.Logic.{⊎_elim}
+use mathlib.Core.Bool.{Bool, true, false, cond}
+use mathlib.Core.List.{List, [], ◌∷◌}
 use native.Mathlib.Omega.{arith}
 use native.Mathlib.Decide.{ℕ_discrete}
 use lib.Dec.{eqb}
-use lib.ListN.{length, get_or, set, length-set}
+use lib.ListN.{length, set, length-set}
 use borrow.Author.Tests.{eq-eqb, ne_eqb}
 use Rattle.heap_slots.specs.Limits.{SLOT_WORDS, SLOTS_MAX, SPAN}
-use Rattle.heap_slots.specs.Header.{header_at, scalars_at, with_scalar}
+use Rattle.heap_slots.specs.Header.{scalars_at, with_scalar}
 use Rattle.heap_slots.specs.declared.Scalars.{Scalars}
 use Rattle.heap_slots.proofs.HeaderLaws.{store_scalar, store_scalar_other}
 use Rattle.layout.specs.Layout.{Layout}
 use Rattle.model.specs.View.{mem}
 use Rattle.model.specs.Slots.{count_in}
 use Rattle.collector_marking.specs.Children.{word_at}
-use Rattle.collector_finalizing.specs.Order.{Own, Owned, seq_of, sort_words}
-use Rattle.collector_finalizing.specs.Dropped.{is_dropped, sieve, dropped_slots, marks_reached, dropped_words, finalized_in, Listable}
+use Rattle.collector_finalizing.specs.Order.{Own, Owned, seq_of}
+use Rattle.collector_finalizing.specs.Dropped.{is_dropped, sieve, dropped_slots, marks_reached, dropped_words, finalized_in}
 use Rattle.collector_finalizing.proofs.OrderLaws.{occ_none, occ_cases, occ_head, occ_tail, sort_occ}
 
 -- ---- the scalars

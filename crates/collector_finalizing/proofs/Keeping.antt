@@ -1,8 +1,8 @@
 -- What is kept, marked in two phases; and the marks undone where the list is too short.
 use mathlib.Core.Path.{◌≡◌, refl, sym, ap, ◌∙◌}
 use mathlib.Core.List.Memᴰ
-use mathlib.Core.List.{List, ◌∷◌, ◌++◌}
-use Prim.Native.Nat.{ℕ, zero, suc, ◌+◌, ◌-◌, ◌*◌, ◌≤◌, ◌<◌}
+use mathlib.Core.List.{List}
+use Prim.Native.Nat.{ℕ, zero, suc, ◌+◌, ◌≤◌, ◌<◌}
 use native.Mathlib.Omega.{arith}
 use borrow.Author.Tests.{lt-ltb, le-ltb}
 use lib.ListN.{length, get_or, take, drop, replicate, length-replicate, get_or-replicate, length-drop, take-append-drop}
@@ -55,7 +55,7 @@ module _ {s x c : List ℕ} {n : ℕ} {m o : List ℕ} (g : Sound s x c n) (b : 
   blank-ready = record { few = g.slots_max; fits = g.slots_fit; len = blank-length; room = omega (arith, b.room); count = rw b.marks (zeros_ones n) }
 
   pub blank-listing : Listing s n m o 0
-  blank-listing = record { all = λ i h. absurd (let z = ap (λ (l : List ℕ). get_or l i 0) b.marks ∙ zeros_at n i 0 in omega arith); each = λ i h. absurd (Memᴰ.not_nil h) }
+  blank-listing = record { all = λ i h. absurd (let z = ap (λ (l : List ℕ). get_or l i 0) b.marks ∙ zeros_at n i 0 in omega arith); each = λ i h. absurd (Memᴰ.not-nil h) }
 
   module _ {kids : ℕ → List ℕ} {ws m₁ o₁ : List ℕ} {k : ℕ} (p : Phased s n kids ws m o 0 m₁ o₁ k) where
     few : k ≤ n

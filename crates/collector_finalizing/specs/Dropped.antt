@@ -1,5 +1,5 @@
 -- F, as the slots and the marks have it (document 01, "Kept set": "the yielded or awaiting, unfinalized coroutines outside R").
-use Rattle.std.specs.Prelude.{◌≡◌, Bool, cond, ◌&&◌, ◌||◌, List, [], ◌∷◌, ℕ, zero, suc, ◌+◌, ◌*◌, ◌%◌, ◌≤◌, ◌<◌, eqb, ltb, length, get_or, set, take, drop, replicate}
+use Rattle.std.specs.Prelude.{◌≡◌, Bool, cond, ◌&&◌, ◌||◌, List, [], ◌∷◌, ℕ, zero, suc, ◌*◌, ◌%◌, ◌≤◌, ◌<◌, eqb, ltb, length, get_or, set, take, drop, replicate}
 use Rattle.heap_slots.specs.Header.{header_at}
 use Rattle.heap_slots.specs.Limits.{HALF_END, SLOT_WORDS, SLOTS_MAX, SPAN}
 use Rattle.heap_slots.specs.Kinds.{COROUTINE}

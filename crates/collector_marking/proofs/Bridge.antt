@@ -1,32 +1,30 @@
 -- A slot is reachable over the slots exactly if its reference is in document 01's least set.
-use Prim.Native.Nat.{ℕ, zero, suc, ◌+◌, ◌*◌, ◌/◌, ◌%◌, ◌≤◌, ◌<◌}
+use Prim.Native.Nat.{ℕ, ◌+◌, ◌*◌, ◌/◌, ◌%◌, ◌≤◌, ◌<◌}
 use mathlib.Core.Path.{◌≡◌, refl, sym, ap, ◌∙◌}
-use mathlib.Core.Logic.{◌≢◌, ◌↔◌, ◌⊎◌, inl, inr}
-use mathlib.Core.Bool.{Bool, true, false, cond}
-use mathlib.Core.List.{List, [], ◌∷◌, ◌++◌, Memᴰ}
-use mathlib.Core.Option.{Option, none, some, some-injective}
+use mathlib.Core.Logic.{◌≢◌, ◌↔◌}
+use mathlib.Core.Bool.{Bool, true, false}
+use mathlib.Core.List.{List, ◌++◌}
+use mathlib.Core.Option.{none, some, some-injective}
 use native.Mathlib.Omega.{arith}
 use native.Mathlib.Decide.{ℕ_discrete, dec_lt, dec_le}
-use lib.Dec.{eqb, leb, ltb}
+use lib.Dec.{eqb, leb}
 use lib.ListN.{get_or}
-use borrow.Author.Tests.{lt-ltb, le-ltb, le-leb, lt-leb, eq-eqb, ne_eqb, ltb-true, eqb-true, eqb-false}
+use borrow.Author.Tests.{lt-ltb, le-ltb, le-leb, lt-leb, eq-eqb, ne_eqb}
 use Rattle.heap_slots.specs.Limits.{BOX_HALF, GENERATIONS, SLOT_WORDS, SLOTS_MAX, SPAN}
-use Rattle.words.specs.Word.{word_of_ref}
 use Rattle.heap_slots.specs.Header.{header_at}
 use Rattle.heap_slots.specs.Lookup.{hit_first, missed, pick}
-use Rattle.heap_slots.specs.declared.FoundSlot.{FoundSlot}
 use Rattle.heap_slots.specs.declared.FoundSlot.TheVariants as F
-use Rattle.heap_cells.specs.Regions.{RawSlot, raw_at}
+use Rattle.heap_cells.specs.Regions.{raw_at}
 use Rattle.heap_slots.specs.declared.Header.{Header}
 use Rattle.layout.specs.Layout.{Layout}
-use Rattle.model.specs.Reference.{Ref, flag, ref_in, word}
-use Rattle.model.specs.Content.{Content, traced}
+use Rattle.model.specs.Reference.{flag, word}
+use Rattle.model.specs.Content.{Content}
 use Rattle.model.specs.View.{Live, View, look, mem, reference_of}
 use Rattle.model.specs.Slots.{live, live_object, slot_view}
 use Rattle.model.specs.Model.{view_of}
 use Rattle.model.specs.Kept.{Reach, root, onward, reached, finalizable, kept}
 use Rattle.history.proofs.Coding.{ref_in-word, word-ref_in}
-use Rattle.history.proofs.Reaching.{Looked, look-some, look_of}
+use Rattle.history.proofs.Reaching.{look-some, look_of}
 use Rattle.history.proofs.Marking.{reached-is, kept-is}
 use Rattle.history.proofs.Finalizing.{Valid}
 use Rattle.heap.specs.Kinds.{content_of, object_of}

@@ -8,7 +8,7 @@ use lib.ListN.{length, get_or, set, take, drop, length-set, get_or-eq_default}
 use lib.Seq.{drop-drop, drop-set-lt, take-suc-set}
 use Rattle.collector_marking.specs.Reach.{ones, put, new, after, queued}
 use Rattle.collector_marking.specs.Marks.{Marks, MarksFit}
-use Rattle.collector_marking.proofs.ReachLaws.{ones-set, ones_le, ones-room, after-ones}
+use Rattle.collector_marking.proofs.ReachLaws.{ones-set, ones-room, after-ones}
 
 pub get_d_in : (m : List ℕ) (s d e : ℕ) → s < length m → get_or m s d ≡ get_or m s e
 get_d_in [] s d e h = absurd (omega arith)

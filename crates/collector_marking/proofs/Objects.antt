@@ -1,13 +1,12 @@
 -- The traced words of the object in a slot, by its header's kind.
-use mathlib.Core.Path.{◌≡◌, refl, sym, ap, ◌∙◌}
+use mathlib.Core.Path.{◌≡◌}
 use mathlib.Core.Logic.{◌≢◌}
-use mathlib.Core.Bool.{Bool, true, false, cond}
-use mathlib.Core.List.{List, [], ◌∷◌, ◌++◌, map}
-use Prim.Native.Nat.{ℕ, zero, suc, ◌+◌, ◌-◌, ◌*◌, ◌/◌, ◌≤◌, ◌<◌}
+use mathlib.Core.Bool.{cond}
+use mathlib.Core.List.{List, [], ◌∷◌}
+use Prim.Native.Nat.{ℕ, ◌+◌, ◌-◌, ◌*◌, ◌≤◌, ◌<◌}
 use native.Mathlib.Omega.{arith}
 use native.Mathlib.Decide.{ℕ_discrete}
-use lib.Dec.{eqb}
-use lib.ListN.{length, get_or, take, drop, length-take, length-drop}
+use lib.ListN.{length, take, drop, length-drop}
 use lib.Seq.{take-take, length-take-le}
 use Rattle.heap_slots.specs.Header.{header_at, scalars_at}
 use Rattle.heap_slots.specs.declared.Header.{Header}
@@ -17,10 +16,10 @@ use Rattle.heap_slots.specs.declared.IteratorScalars.{IteratorScalars}
 use Rattle.heap_slots.specs.declared.MapScalars.{MapScalars}
 use Rattle.heap_cells.specs.Regions.{raw_at, raw_of, region_of}
 use Rattle.layout.specs.Layout.{Layout, is_traced, fields_of, captures_of}
-use Rattle.map_store.specs.View.{entries_in, store_of}
+use Rattle.map_store.specs.View.{entries_in}
 use Rattle.model.specs.Content.{traced, word_if, words_at, traced_by_type, entry_words, key_word, frame_words}
 use Rattle.heap.specs.Kinds as Kinds
-use Rattle.heap.specs.Kinds.{perhaps, map_of, frames_in, content_of}
+use Rattle.heap.specs.Kinds.{perhaps, frames_in, content_of}
 use Rattle.heap.specs.Good.{SlotGood}
 use Rattle.heap.proofs.GoodLaws.{holds_as}
 use Rattle.collector_marking.specs.Children.{children}

@@ -1,9 +1,9 @@
 -- `phase` marks exactly what is reachable.
-use mathlib.Core.Path.{◌≡◌, refl, sym, ap, ◌∙◌, subst}
+use mathlib.Core.Path.{◌≡◌, refl, sym, ◌∙◌, subst}
 use mathlib.Core.Logic.{◌⊎◌, inl, inr, ⊎_elim}
 use mathlib.Core.List.Memᴰ
 use mathlib.Core.List.{List, [], ◌∷◌, ◌++◌, Memᴰ}
-use Prim.Native.Nat.{ℕ, zero, suc, ◌+◌, ◌≤◌, ◌<◌, min, ◌-◌}
+use Prim.Native.Nat.{ℕ, zero, suc, ◌+◌, ◌≤◌, ◌<◌}
 use native.Mathlib.Omega.{arith}
 use native.Mathlib.Decide.{ℕ_discrete}
 use lib.ListN.{length, get_or, set, length-set, length-append}
@@ -54,7 +54,7 @@ one m s (suc b) e = record {
   grow = λ x h. h;
   hits = λ h. was_marked m s b e h;
   why = λ x h. inl h;
-  from = λ x h. absurd (Memᴰ.not_nil h);
+  from = λ x h. absurd (Memᴰ.not-nil h);
   count = omega arith;
   len = refl;
 }
@@ -72,9 +72,9 @@ pub many : (hit : ℕ → ℕ) (ws m : List ℕ) → Many hit ws m (after hit ws
 unfolding after queued
 many hit [] m = record {
   grow = λ x h. h;
-  hits = λ w h l. absurd (Memᴰ.not_nil h);
+  hits = λ w h l. absurd (Memᴰ.not-nil h);
   why = λ x h. inl h;
-  from = λ x h. absurd (Memᴰ.not_nil h);
+  from = λ x h. absurd (Memᴰ.not-nil h);
   count = omega arith;
   len = refl;
 }
@@ -139,7 +139,7 @@ module _ (n : ℕ) (hit : ℕ → ℕ) (kids : ℕ → List ℕ) where
   good-whole : (roots m : List ℕ) → Good roots m [] → (s : ℕ) → SlotReach n hit kids roots s → Marked m s
   good-whole roots m g s (by_root {w = w} k e l) = rw e at (g.rooted w k (rw e l))
   good-whole roots m g s (by_object {i = i} {w = w} r k e l) = rw e at
-      (⊎_elim (λ q. absurd (Memᴰ.not_nil q)) (λ b. b w k (rw e l)) (g.tri i (good-whole roots m g i r)))
+      (⊎_elim (λ q. absurd (Memᴰ.not-nil q)) (λ b. b w k (rw e l)) (g.tri i (good-whole roots m g i r)))
 
   reach_more : (roots ws : List ℕ) (s : ℕ) → SlotReach n hit kids roots s → SlotReach n hit kids (roots ++ ws) s
   reach_more roots ws s (by_root k e l) = by_root (Memᴰ.append_left ws k) e l
@@ -165,7 +165,7 @@ module _ (n : ℕ) (hit : ℕ → ℕ) (kids : ℕ → List ℕ) where
 
   -- No mark is exact for no roots
   none-reached : (s : ℕ) → SlotReach n hit kids [] s → ⊥
-  none-reached s (by_root k e l) = Memᴰ.not_nil k
+  none-reached s (by_root k e l) = Memᴰ.not-nil k
   none-reached s (by_object {i = i} r k e l) = none-reached i r
 
   zeros_unmarked : (m : List ℕ) → ones m ≡ 0 → (s : ℕ) → Marked m s → ⊥

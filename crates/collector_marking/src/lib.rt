@@ -1,5 +1,7 @@
 // Marking (document 01, "Kept set"): which slots some words reach. A mark for each slot, and the
 // marked slots in the order of their marking; those not yet scanned are the queue.
+#![tactic(auto)]
+
 ghost use Rattle.std.specs.Prelude.{◌≡◌, cond, [], ◌∷◌, map, ◌+◌, ◌*◌, ◌≤◌, ◌<◌, ltb, length, get_or, take, drop};
 ghost use Rattle.layout.specs.Layout.{is_traced, fields_of, captures_of};
 ghost use Rattle.layout.specs.Sections.{Tabled, layout_of, fields_from, registers_from, captures_from};

@@ -1,4 +1,6 @@
 // Readings and stores of the contents of objects that need no more room.
+#![tactic(auto)]
+
 pub mod readings;
 pub mod stores;
 
@@ -6,7 +8,7 @@ use heap::Refusal;
 use model::Frame;
 
 // A coroutine's frame read.
-#[derive(Drop)]
+#[derive(Clone, Copy)]
 pub enum FrameRead {
     Is(Frame),
     Refused(Refusal),

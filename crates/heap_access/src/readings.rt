@@ -6,7 +6,7 @@ ghost use Rattle.model.specs.Rules as Parts;
 ghost use Rattle.heap.specs.Answers.{reading_is, signed_is, test_is};
 ghost use Rattle.heap_access.specs.Answers.{lent_reading, frame_seen};
 ghost use Rattle.heap_access.specs.Objects.{ReadsHeader, ReadsScalar, ReadsWord, WordsFit, frame_of};
-ghost use Rattle.heap.specs.State.{before, lent};
+ghost use Rattle.heap.specs.State.{state};
 ghost use Rattle.heap.specs.Good.{Good};
 ghost use Rattle.heap.specs.Promise.{Reads};
 
@@ -108,8 +108,8 @@ pub fn read_box(
     cells: &[u64],
     w: u64,
 ) -> Reading
-    requires { Good (lent heap slots scalars list directory cells) }
-    ensures { Reads (Calls.read_box w) (before heap slots scalars list directory cells) (reading_is result) }
+    requires { Good (state heap slots.now scalars.now list.now directory.now cells.now) }
+    ensures { Reads (Calls.read_box w) (state heap slots.now scalars.now list.now directory.now cells.now) (reading_is result) }
 {
     read_value(slots, heap.fresh, w, kinds::BOX)
 }
@@ -124,8 +124,8 @@ pub fn read_cell(
     cells: &[u64],
     w: u64,
 ) -> Reading
-    requires { Good (lent heap slots scalars list directory cells) }
-    ensures { Reads (Calls.read_cell w) (before heap slots scalars list directory cells) (reading_is result) }
+    requires { Good (state heap slots.now scalars.now list.now directory.now cells.now) }
+    ensures { Reads (Calls.read_cell w) (state heap slots.now scalars.now list.now directory.now cells.now) (reading_is result) }
 {
     read_value(slots, heap.fresh, w, kinds::CELL)
 }
@@ -139,8 +139,8 @@ pub fn cell_type(
     cells: &[u64],
     w: u64,
 ) -> Reading
-    requires { Good (lent heap slots scalars list directory cells) }
-    ensures { Reads (Calls.cell_type w) (before heap slots scalars list directory cells) (reading_is result) }
+    requires { Good (state heap slots.now scalars.now list.now directory.now cells.now) }
+    ensures { Reads (Calls.cell_type w) (state heap slots.now scalars.now list.now directory.now cells.now) (reading_is result) }
 {
     read_mode(slots, heap.fresh, w, kinds::CELL)
 }
@@ -155,8 +155,8 @@ pub fn error_kind(
     cells: &[u64],
     w: u64,
 ) -> Reading
-    requires { Good (lent heap slots scalars list directory cells) }
-    ensures { Reads (Calls.error_kind w) (before heap slots scalars list directory cells) (reading_is result) }
+    requires { Good (state heap slots.now scalars.now list.now directory.now cells.now) }
+    ensures { Reads (Calls.error_kind w) (state heap slots.now scalars.now list.now directory.now cells.now) (reading_is result) }
 {
     read_mode(slots, heap.fresh, w, kinds::ERROR)
 }
@@ -170,8 +170,8 @@ pub fn error_word(
     cells: &[u64],
     w: u64,
 ) -> Reading
-    requires { Good (lent heap slots scalars list directory cells) }
-    ensures { Reads (Calls.error_word w) (before heap slots scalars list directory cells) (reading_is result) }
+    requires { Good (state heap slots.now scalars.now list.now directory.now cells.now) }
+    ensures { Reads (Calls.error_word w) (state heap slots.now scalars.now list.now directory.now cells.now) (reading_is result) }
 {
     read_value(slots, heap.fresh, w, kinds::ERROR)
 }
@@ -186,8 +186,8 @@ pub fn read_integer(
     cells: &[u64],
     w: u64,
 ) -> Signed
-    requires { Good (lent heap slots scalars list directory cells) }
-    ensures { Reads (Calls.read_integer w) (before heap slots scalars list directory cells) (signed_is result) }
+    requires { Good (state heap slots.now scalars.now list.now directory.now cells.now) }
+    ensures { Reads (Calls.read_integer w) (state heap slots.now scalars.now list.now directory.now cells.now) (signed_is result) }
 {
     match lookup::locate(slots, heap.fresh, w, kinds::INTEGER) {
         Located::Refused(q) => Signed::Refused(q),
@@ -207,8 +207,8 @@ pub fn string_length(
     cells: &[u64],
     w: u64,
 ) -> Reading
-    requires { Good (lent heap slots scalars list directory cells) }
-    ensures { Reads (Calls.string_length w) (before heap slots scalars list directory cells) (reading_is result) }
+    requires { Good (state heap slots.now scalars.now list.now directory.now cells.now) }
+    ensures { Reads (Calls.string_length w) (state heap slots.now scalars.now list.now directory.now cells.now) (reading_is result) }
 {
     read_len(slots, heap.fresh, w, kinds::STRING)
 }
@@ -224,8 +224,8 @@ pub fn read_string(
     w: u64,
     buffer: &mut [u8],
 ) -> Reading
-    requires { Good (lent heap slots scalars list directory cells) }
-    ensures { Reads (Calls.read_string w buffer.old) (before heap slots scalars list directory cells) (lent_reading result buffer.new) }
+    requires { Good (state heap slots.now scalars.now list.now directory.now cells.now) }
+    ensures { Reads (Calls.read_string w buffer.old) (state heap slots.now scalars.now list.now directory.now cells.now) (lent_reading result buffer.new) }
 {
     match lookup::locate(slots, heap.fresh, w, kinds::STRING) {
         Located::Refused(q) => Reading::Refused(q),
@@ -250,8 +250,8 @@ pub fn array_type(
     cells: &[u64],
     w: u64,
 ) -> Reading
-    requires { Good (lent heap slots scalars list directory cells) }
-    ensures { Reads (Calls.array_type w) (before heap slots scalars list directory cells) (reading_is result) }
+    requires { Good (state heap slots.now scalars.now list.now directory.now cells.now) }
+    ensures { Reads (Calls.array_type w) (state heap slots.now scalars.now list.now directory.now cells.now) (reading_is result) }
 {
     read_mode(slots, heap.fresh, w, kinds::ARRAY)
 }
@@ -265,8 +265,8 @@ pub fn array_length(
     cells: &[u64],
     w: u64,
 ) -> Reading
-    requires { Good (lent heap slots scalars list directory cells) }
-    ensures { Reads (Calls.array_length w) (before heap slots scalars list directory cells) (reading_is result) }
+    requires { Good (state heap slots.now scalars.now list.now directory.now cells.now) }
+    ensures { Reads (Calls.array_length w) (state heap slots.now scalars.now list.now directory.now cells.now) (reading_is result) }
 {
     read_len(slots, heap.fresh, w, kinds::ARRAY)
 }
@@ -280,8 +280,8 @@ pub fn array_capacity(
     cells: &[u64],
     w: u64,
 ) -> Reading
-    requires { Good (lent heap slots scalars list directory cells) }
-    ensures { Reads (Calls.array_capacity w) (before heap slots scalars list directory cells) (reading_is result) }
+    requires { Good (state heap slots.now scalars.now list.now directory.now cells.now) }
+    ensures { Reads (Calls.array_capacity w) (state heap slots.now scalars.now list.now directory.now cells.now) (reading_is result) }
 {
     read_size(slots, heap.fresh, w, kinds::ARRAY)
 }
@@ -297,8 +297,8 @@ pub fn read_item(
     w: u64,
     i: u64,
 ) -> Reading
-    requires { Good (lent heap slots scalars list directory cells) }
-    ensures { Reads (Calls.read_item w i) (before heap slots scalars list directory cells) (reading_is result) }
+    requires { Good (state heap slots.now scalars.now list.now directory.now cells.now) }
+    ensures { Reads (Calls.read_item w i) (state heap slots.now scalars.now list.now directory.now cells.now) (reading_is result) }
 {
     read_word(slots, cells, heap.fresh, w, kinds::ARRAY, i)
 }
@@ -313,8 +313,8 @@ pub fn struct_number(
     cells: &[u64],
     w: u64,
 ) -> Reading
-    requires { Good (lent heap slots scalars list directory cells) }
-    ensures { Reads (Calls.struct_number w) (before heap slots scalars list directory cells) (reading_is result) }
+    requires { Good (state heap slots.now scalars.now list.now directory.now cells.now) }
+    ensures { Reads (Calls.struct_number w) (state heap slots.now scalars.now list.now directory.now cells.now) (reading_is result) }
 {
     read_value(slots, heap.fresh, w, kinds::STRUCT)
 }
@@ -328,8 +328,8 @@ pub fn field_count(
     cells: &[u64],
     w: u64,
 ) -> Reading
-    requires { Good (lent heap slots scalars list directory cells) }
-    ensures { Reads (Calls.field_count w) (before heap slots scalars list directory cells) (reading_is result) }
+    requires { Good (state heap slots.now scalars.now list.now directory.now cells.now) }
+    ensures { Reads (Calls.field_count w) (state heap slots.now scalars.now list.now directory.now cells.now) (reading_is result) }
 {
     read_len(slots, heap.fresh, w, kinds::STRUCT)
 }
@@ -344,8 +344,8 @@ pub fn read_field(
     w: u64,
     i: u64,
 ) -> Reading
-    requires { Good (lent heap slots scalars list directory cells) }
-    ensures { Reads (Calls.read_field w i) (before heap slots scalars list directory cells) (reading_is result) }
+    requires { Good (state heap slots.now scalars.now list.now directory.now cells.now) }
+    ensures { Reads (Calls.read_field w i) (state heap slots.now scalars.now list.now directory.now cells.now) (reading_is result) }
 {
     read_word(slots, cells, heap.fresh, w, kinds::STRUCT, i)
 }
@@ -360,8 +360,8 @@ pub fn is_import(
     cells: &[u64],
     w: u64,
 ) -> Test
-    requires { Good (lent heap slots scalars list directory cells) }
-    ensures { Reads (Calls.is_import w) (before heap slots scalars list directory cells) (test_is result) }
+    requires { Good (state heap slots.now scalars.now list.now directory.now cells.now) }
+    ensures { Reads (Calls.is_import w) (state heap slots.now scalars.now list.now directory.now cells.now) (test_is result) }
 {
     match lookup::locate(slots, heap.fresh, w, kinds::FUNCTION) {
         Located::Refused(q) => Test::Refused(q),
@@ -381,8 +381,8 @@ pub fn function_number(
     cells: &[u64],
     w: u64,
 ) -> Reading
-    requires { Good (lent heap slots scalars list directory cells) }
-    ensures { Reads (Calls.function_number w) (before heap slots scalars list directory cells) (reading_is result) }
+    requires { Good (state heap slots.now scalars.now list.now directory.now cells.now) }
+    ensures { Reads (Calls.function_number w) (state heap slots.now scalars.now list.now directory.now cells.now) (reading_is result) }
 {
     read_value(slots, heap.fresh, w, kinds::FUNCTION)
 }
@@ -396,8 +396,8 @@ pub fn capture_count(
     cells: &[u64],
     w: u64,
 ) -> Reading
-    requires { Good (lent heap slots scalars list directory cells) }
-    ensures { Reads (Calls.capture_count w) (before heap slots scalars list directory cells) (reading_is result) }
+    requires { Good (state heap slots.now scalars.now list.now directory.now cells.now) }
+    ensures { Reads (Calls.capture_count w) (state heap slots.now scalars.now list.now directory.now cells.now) (reading_is result) }
 {
     read_len(slots, heap.fresh, w, kinds::FUNCTION)
 }
@@ -412,8 +412,8 @@ pub fn read_capture(
     w: u64,
     i: u64,
 ) -> Reading
-    requires { Good (lent heap slots scalars list directory cells) }
-    ensures { Reads (Calls.read_capture w i) (before heap slots scalars list directory cells) (reading_is result) }
+    requires { Good (state heap slots.now scalars.now list.now directory.now cells.now) }
+    ensures { Reads (Calls.read_capture w i) (state heap slots.now scalars.now list.now directory.now cells.now) (reading_is result) }
 {
     read_word(slots, cells, heap.fresh, w, kinds::FUNCTION, i)
 }
@@ -428,8 +428,8 @@ pub fn read_state(
     cells: &[u64],
     w: u64,
 ) -> Reading
-    requires { Good (lent heap slots scalars list directory cells) }
-    ensures { Reads (Calls.read_state w) (before heap slots scalars list directory cells) (reading_is result) }
+    requires { Good (state heap slots.now scalars.now list.now directory.now cells.now) }
+    ensures { Reads (Calls.read_state w) (state heap slots.now scalars.now list.now directory.now cells.now) (reading_is result) }
 {
     read_mode(slots, heap.fresh, w, kinds::COROUTINE)
 }
@@ -443,8 +443,8 @@ pub fn read_payload(
     cells: &[u64],
     w: u64,
 ) -> Reading
-    requires { Good (lent heap slots scalars list directory cells) }
-    ensures { Reads (Calls.read_part w Parts.payload) (before heap slots scalars list directory cells) (reading_is result) }
+    requires { Good (state heap slots.now scalars.now list.now directory.now cells.now) }
+    ensures { Reads (Calls.read_part w Parts.payload) (state heap slots.now scalars.now list.now directory.now cells.now) (reading_is result) }
 {
     read_scalar(slots, scalars, heap.fresh, w, PAYLOAD)
 }
@@ -458,8 +458,8 @@ pub fn read_key(
     cells: &[u64],
     w: u64,
 ) -> Reading
-    requires { Good (lent heap slots scalars list directory cells) }
-    ensures { Reads (Calls.read_part w Parts.key) (before heap slots scalars list directory cells) (reading_is result) }
+    requires { Good (state heap slots.now scalars.now list.now directory.now cells.now) }
+    ensures { Reads (Calls.read_part w Parts.key) (state heap slots.now scalars.now list.now directory.now cells.now) (reading_is result) }
 {
     read_scalar(slots, scalars, heap.fresh, w, KEY)
 }
@@ -473,8 +473,8 @@ pub fn read_result(
     cells: &[u64],
     w: u64,
 ) -> Reading
-    requires { Good (lent heap slots scalars list directory cells) }
-    ensures { Reads (Calls.read_part w Parts.result) (before heap slots scalars list directory cells) (reading_is result) }
+    requires { Good (state heap slots.now scalars.now list.now directory.now cells.now) }
+    ensures { Reads (Calls.read_part w Parts.result) (state heap slots.now scalars.now list.now directory.now cells.now) (reading_is result) }
 {
     read_scalar(slots, scalars, heap.fresh, w, RESULT)
 }
@@ -488,8 +488,8 @@ pub fn read_signal(
     cells: &[u64],
     w: u64,
 ) -> Reading
-    requires { Good (lent heap slots scalars list directory cells) }
-    ensures { Reads (Calls.read_part w Parts.signal) (before heap slots scalars list directory cells) (reading_is result) }
+    requires { Good (state heap slots.now scalars.now list.now directory.now cells.now) }
+    ensures { Reads (Calls.read_part w Parts.signal) (state heap slots.now scalars.now list.now directory.now cells.now) (reading_is result) }
 {
     read_scalar(slots, scalars, heap.fresh, w, SIGNAL)
 }
@@ -503,8 +503,8 @@ pub fn coroutine_sequence(
     cells: &[u64],
     w: u64,
 ) -> Reading
-    requires { Good (lent heap slots scalars list directory cells) }
-    ensures { Reads (Calls.coroutine_sequence w) (before heap slots scalars list directory cells) (reading_is result) }
+    requires { Good (state heap slots.now scalars.now list.now directory.now cells.now) }
+    ensures { Reads (Calls.coroutine_sequence w) (state heap slots.now scalars.now list.now directory.now cells.now) (reading_is result) }
 {
     read_value(slots, heap.fresh, w, kinds::COROUTINE)
 }
@@ -518,8 +518,8 @@ pub fn coroutine_finalized(
     cells: &[u64],
     w: u64,
 ) -> Test
-    requires { Good (lent heap slots scalars list directory cells) }
-    ensures { Reads (Calls.coroutine_finalized w) (before heap slots scalars list directory cells) (test_is result) }
+    requires { Good (state heap slots.now scalars.now list.now directory.now cells.now) }
+    ensures { Reads (Calls.coroutine_finalized w) (state heap slots.now scalars.now list.now directory.now cells.now) (test_is result) }
 {
     match lookup::locate(slots, heap.fresh, w, kinds::COROUTINE) {
         Located::Refused(q) => Test::Refused(q),
@@ -540,8 +540,8 @@ pub fn register_count(
     cells: &[u64],
     w: u64,
 ) -> Reading
-    requires { Good (lent heap slots scalars list directory cells) }
-    ensures { Reads (Calls.register_count w) (before heap slots scalars list directory cells) (reading_is result) }
+    requires { Good (state heap slots.now scalars.now list.now directory.now cells.now) }
+    ensures { Reads (Calls.register_count w) (state heap slots.now scalars.now list.now directory.now cells.now) (reading_is result) }
 {
     read_len(slots, heap.fresh, w, kinds::COROUTINE)
 }
@@ -555,8 +555,8 @@ pub fn frame_count(
     cells: &[u64],
     w: u64,
 ) -> Reading
-    requires { Good (lent heap slots scalars list directory cells) }
-    ensures { Reads (Calls.frame_count w) (before heap slots scalars list directory cells) (reading_is result) }
+    requires { Good (state heap slots.now scalars.now list.now directory.now cells.now) }
+    ensures { Reads (Calls.frame_count w) (state heap slots.now scalars.now list.now directory.now cells.now) (reading_is result) }
 {
     read_scalar(slots, scalars, heap.fresh, w, FRAMES)
 }
@@ -571,8 +571,8 @@ pub fn read_frame(
     w: u64,
     i: u64,
 ) -> FrameRead
-    requires { Good (lent heap slots scalars list directory cells) }
-    ensures { Reads (Calls.read_frame w i) (before heap slots scalars list directory cells) (frame_seen result) }
+    requires { Good (state heap slots.now scalars.now list.now directory.now cells.now) }
+    ensures { Reads (Calls.read_frame w i) (state heap slots.now scalars.now list.now directory.now cells.now) (frame_seen result) }
 {
     match lookup::locate(slots, heap.fresh, w, kinds::COROUTINE) {
         Located::Refused(q) => FrameRead::Refused(q),
@@ -610,8 +610,8 @@ pub fn read_register(
     w: u64,
     i: u64,
 ) -> Reading
-    requires { Good (lent heap slots scalars list directory cells) }
-    ensures { Reads (Calls.read_register w i) (before heap slots scalars list directory cells) (reading_is result) }
+    requires { Good (state heap slots.now scalars.now list.now directory.now cells.now) }
+    ensures { Reads (Calls.read_register w i) (state heap slots.now scalars.now list.now directory.now cells.now) (reading_is result) }
 {
     read_word(slots, cells, heap.fresh, w, kinds::COROUTINE, i)
 }

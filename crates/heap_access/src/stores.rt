@@ -5,7 +5,7 @@ ghost use Rattle.model.specs.Calls as Calls;
 ghost use Rattle.model.specs.Rules as Parts;
 ghost use Rattle.heap.specs.Answers.{done_is};
 ghost use Rattle.heap_access.specs.Objects.{StoresScalar, StoresValue, StoresWord, WordsFit};
-ghost use Rattle.heap.specs.State.{after, before, lent};
+ghost use Rattle.heap.specs.State.{state};
 ghost use Rattle.heap.specs.Good.{Good};
 ghost use Rattle.heap.specs.Promise.{Performs};
 
@@ -79,8 +79,8 @@ pub fn store_cell(
     w: u64,
     v: u64,
 ) -> Done
-    requires { Good (lent heap slots scalars list directory cells) }
-    ensures { Performs (Calls.store_cell w v) (before heap slots scalars list directory cells) (done_is result) (after heap slots scalars list directory cells) }
+    requires { Good (state heap slots.old scalars.now list.now directory.now cells.now) }
+    ensures { Performs (Calls.store_cell w v) (state heap slots.old scalars.now list.now directory.now cells.now) (done_is result) (state heap slots.new scalars.now list.now directory.now cells.now) }
 {
     store_value(slots, heap.fresh, w, kinds::CELL, v)
 }
@@ -95,8 +95,8 @@ pub fn store_box(
     w: u64,
     v: u64,
 ) -> Done
-    requires { Good (lent heap slots scalars list directory cells) }
-    ensures { Performs (Calls.store_box w v) (before heap slots scalars list directory cells) (done_is result) (after heap slots scalars list directory cells) }
+    requires { Good (state heap slots.old scalars.now list.now directory.now cells.now) }
+    ensures { Performs (Calls.store_box w v) (state heap slots.old scalars.now list.now directory.now cells.now) (done_is result) (state heap slots.new scalars.now list.now directory.now cells.now) }
 {
     store_value(slots, heap.fresh, w, kinds::BOX, v)
 }
@@ -113,8 +113,8 @@ pub fn store_field(
     i: u64,
     v: u64,
 ) -> Done
-    requires { Good (lent heap slots scalars list directory cells) }
-    ensures { Performs (Calls.store_field w i v) (before heap slots scalars list directory cells) (done_is result) (after heap slots scalars list directory cells) }
+    requires { Good (state heap slots.now scalars.now list.now directory.now cells.old) }
+    ensures { Performs (Calls.store_field w i v) (state heap slots.now scalars.now list.now directory.now cells.old) (done_is result) (state heap slots.now scalars.now list.now directory.now cells.new) }
 {
     store_word(slots, cells, heap.fresh, w, kinds::STRUCT, i, v)
 }
@@ -130,8 +130,8 @@ pub fn store_capture(
     i: u64,
     v: u64,
 ) -> Done
-    requires { Good (lent heap slots scalars list directory cells) }
-    ensures { Performs (Calls.store_capture w i v) (before heap slots scalars list directory cells) (done_is result) (after heap slots scalars list directory cells) }
+    requires { Good (state heap slots.now scalars.now list.now directory.now cells.old) }
+    ensures { Performs (Calls.store_capture w i v) (state heap slots.now scalars.now list.now directory.now cells.old) (done_is result) (state heap slots.now scalars.now list.now directory.now cells.new) }
 {
     store_word(slots, cells, heap.fresh, w, kinds::FUNCTION, i, v)
 }
@@ -147,8 +147,8 @@ pub fn store_register(
     i: u64,
     v: u64,
 ) -> Done
-    requires { Good (lent heap slots scalars list directory cells) }
-    ensures { Performs (Calls.store_register w i v) (before heap slots scalars list directory cells) (done_is result) (after heap slots scalars list directory cells) }
+    requires { Good (state heap slots.now scalars.now list.now directory.now cells.old) }
+    ensures { Performs (Calls.store_register w i v) (state heap slots.now scalars.now list.now directory.now cells.old) (done_is result) (state heap slots.now scalars.now list.now directory.now cells.new) }
 {
     store_word(slots, cells, heap.fresh, w, kinds::COROUTINE, i, v)
 }
@@ -164,8 +164,8 @@ pub fn store_payload(
     w: u64,
     v: u64,
 ) -> Done
-    requires { Good (lent heap slots scalars list directory cells) }
-    ensures { Performs (Calls.store_part w Parts.payload v) (before heap slots scalars list directory cells) (done_is result) (after heap slots scalars list directory cells) }
+    requires { Good (state heap slots.now scalars.old list.now directory.now cells.now) }
+    ensures { Performs (Calls.store_part w Parts.payload v) (state heap slots.now scalars.old list.now directory.now cells.now) (done_is result) (state heap slots.now scalars.new list.now directory.now cells.now) }
 {
     store_scalar(slots, scalars, heap.fresh, w, PAYLOAD, v)
 }
@@ -180,8 +180,8 @@ pub fn store_key(
     w: u64,
     v: u64,
 ) -> Done
-    requires { Good (lent heap slots scalars list directory cells) }
-    ensures { Performs (Calls.store_part w Parts.key v) (before heap slots scalars list directory cells) (done_is result) (after heap slots scalars list directory cells) }
+    requires { Good (state heap slots.now scalars.old list.now directory.now cells.now) }
+    ensures { Performs (Calls.store_part w Parts.key v) (state heap slots.now scalars.old list.now directory.now cells.now) (done_is result) (state heap slots.now scalars.new list.now directory.now cells.now) }
 {
     store_scalar(slots, scalars, heap.fresh, w, KEY, v)
 }
@@ -196,8 +196,8 @@ pub fn store_result(
     w: u64,
     v: u64,
 ) -> Done
-    requires { Good (lent heap slots scalars list directory cells) }
-    ensures { Performs (Calls.store_part w Parts.result v) (before heap slots scalars list directory cells) (done_is result) (after heap slots scalars list directory cells) }
+    requires { Good (state heap slots.now scalars.old list.now directory.now cells.now) }
+    ensures { Performs (Calls.store_part w Parts.result v) (state heap slots.now scalars.old list.now directory.now cells.now) (done_is result) (state heap slots.now scalars.new list.now directory.now cells.now) }
 {
     store_scalar(slots, scalars, heap.fresh, w, RESULT, v)
 }
@@ -212,8 +212,8 @@ pub fn store_signal(
     w: u64,
     v: u64,
 ) -> Done
-    requires { Good (lent heap slots scalars list directory cells) }
-    ensures { Performs (Calls.store_part w Parts.signal v) (before heap slots scalars list directory cells) (done_is result) (after heap slots scalars list directory cells) }
+    requires { Good (state heap slots.now scalars.old list.now directory.now cells.now) }
+    ensures { Performs (Calls.store_part w Parts.signal v) (state heap slots.now scalars.old list.now directory.now cells.now) (done_is result) (state heap slots.now scalars.new list.now directory.now cells.now) }
 {
     store_scalar(slots, scalars, heap.fresh, w, SIGNAL, v)
 }
@@ -229,8 +229,8 @@ pub fn set_state(
     w: u64,
     s: u64,
 ) -> Done
-    requires { Good (lent heap slots scalars list directory cells) }
-    ensures { Performs (Calls.set_state w s) (before heap slots scalars list directory cells) (done_is result) (after heap slots scalars list directory cells) }
+    requires { Good (state heap slots.old scalars.now list.now directory.now cells.now) }
+    ensures { Performs (Calls.set_state w s) (state heap slots.old scalars.now list.now directory.now cells.now) (done_is result) (state heap slots.new scalars.now list.now directory.now cells.now) }
 {
     if 4 < s {
         return Done::Refused(Refusal::BadType);
@@ -256,8 +256,8 @@ pub fn store_item(
     i: u64,
     v: u64,
 ) -> Done
-    requires { Good (lent heap slots scalars list directory cells) }
-    ensures { Performs (Calls.store_item w i v) (before heap slots scalars list directory cells) (done_is result) (after heap slots scalars list directory cells) }
+    requires { Good (state heap slots.now scalars.now list.now directory.now cells.old) }
+    ensures { Performs (Calls.store_item w i v) (state heap slots.now scalars.now list.now directory.now cells.old) (done_is result) (state heap slots.now scalars.now list.now directory.now cells.new) }
 {
     match lookup::locate(slots, heap.fresh, w, kinds::ARRAY) {
         Located::Refused(q) => Done::Refused(q),

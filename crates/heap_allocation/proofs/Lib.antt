@@ -2,5 +2,4 @@ pub mod MakeLaws
 pub mod PlainLaws
 pub mod RegionLaws
 pub mod CoroutineLaws
-pub mod Again
 pub mod FrameLaws

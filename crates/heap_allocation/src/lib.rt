@@ -1,11 +1,13 @@
 // Allocation of every kind but maps and iterators. What the calls are built on stands apart:
 // `making`.
+#![tactic(auto)]
+
 pub mod making;
 
 ghost use Rattle.std.specs.Prelude.{◌≡◌, ◌+◌, ◌*◌, ◌/◌, ◌≤◌, length, take};
 ghost use Rattle.account.specs.Account.{saturated};
 ghost use Rattle.model.specs.Calls as Calls;
-ghost use Rattle.heap.specs.State.{after, before, lent};
+ghost use Rattle.heap.specs.State.{state};
 ghost use Rattle.heap.specs.Good.{Good};
 ghost use Rattle.heap.specs.Promise.{Performs};
 ghost use Rattle.heap.specs.Answers.{made_is};
@@ -27,8 +29,8 @@ pub fn new_integer(
     cells: &[u64],
     z: i64,
 ) -> Made
-    requires { Good (lent heap slots scalars list directory cells) }
-    ensures { Performs (Calls.new_integer z) (before heap slots scalars list directory cells) (made_is result.answer) (after result.heap slots scalars list directory cells) }
+    requires { Good (state heap slots.old scalars.now list.now directory.now cells.now) }
+    ensures { Performs (Calls.new_integer z) (state heap slots.old scalars.now list.now directory.now cells.now) (made_is result.answer) (state result.heap slots.new scalars.now list.now directory.now cells.now) }
 {
     let weights = heap.weights;
     let h = heap_slots::fresh_header(kinds::INTEGER, words::bits_of(z), 0, 0, 0);
@@ -54,8 +56,8 @@ pub fn new_cell(
     t: u64,
     w: u64,
 ) -> Made
-    requires { Good (lent heap slots scalars list directory cells) }
-    ensures { Performs (Calls.new_cell t w) (before heap slots scalars list directory cells) (made_is result.answer) (after result.heap slots scalars list directory cells) }
+    requires { Good (state heap slots.old scalars.now list.now directory.now cells.now) }
+    ensures { Performs (Calls.new_cell t w) (state heap slots.old scalars.now list.now directory.now cells.now) (made_is result.answer) (state result.heap slots.new scalars.now list.now directory.now cells.now) }
 {
     if 2 < t {
         return Made {
@@ -87,8 +89,8 @@ pub fn new_error(
     kind: u16,
     w: u64,
 ) -> Made
-    requires { Good (lent heap slots scalars list directory cells) }
-    ensures { Performs (Calls.new_error kind w) (before heap slots scalars list directory cells) (made_is result.answer) (after result.heap slots scalars list directory cells) }
+    requires { Good (state heap slots.old scalars.now list.now directory.now cells.now) }
+    ensures { Performs (Calls.new_error kind w) (state heap slots.old scalars.now list.now directory.now cells.now) (made_is result.answer) (state result.heap slots.new scalars.now list.now directory.now cells.now) }
 {
     let weights = heap.weights;
     let h = heap_slots::fresh_header(kinds::ERROR, w, kind as u64, 0, 0);
@@ -113,8 +115,8 @@ pub fn new_box(
     cells: &[u64],
     w: u64,
 ) -> Made
-    requires { Good (lent heap slots scalars list directory cells) }
-    ensures { Performs (Calls.new_box w) (before heap slots scalars list directory cells) (made_is result.answer) (after result.heap slots scalars list directory cells) }
+    requires { Good (state heap slots.old scalars.now list.now directory.now cells.now) }
+    ensures { Performs (Calls.new_box w) (state heap slots.old scalars.now list.now directory.now cells.now) (made_is result.answer) (state result.heap slots.new scalars.now list.now directory.now cells.now) }
 {
     let weights = heap.weights;
     let h = heap_slots::fresh_header(kinds::BOX, w, 0, 0, 0);
@@ -140,8 +142,8 @@ pub fn new_struct(
     number: u64,
     fields: &[u64],
 ) -> Made
-    requires { Good (lent heap slots scalars list directory cells) }
-    ensures { Performs (Calls.new_struct number fields.now) (before heap slots scalars list directory cells) (made_is result.answer) (after result.heap slots scalars list directory cells) }
+    requires { Good (state heap slots.old scalars.now list.now directory.old cells.old) }
+    ensures { Performs (Calls.new_struct number fields.now) (state heap slots.old scalars.now list.now directory.old cells.old) (made_is result.answer) (state result.heap slots.new scalars.now list.now directory.new cells.new) }
 {
     making::new_words(
         heap,
@@ -168,8 +170,8 @@ pub fn new_function(
     number: u64,
     captures: &[u64],
 ) -> Made
-    requires { Good (lent heap slots scalars list directory cells) }
-    ensures { Performs (Calls.new_function import number captures.now) (before heap slots scalars list directory cells) (made_is result.answer) (after result.heap slots scalars list directory cells) }
+    requires { Good (state heap slots.old scalars.now list.now directory.old cells.old) }
+    ensures { Performs (Calls.new_function import number captures.now) (state heap slots.old scalars.now list.now directory.old cells.old) (made_is result.answer) (state result.heap slots.new scalars.now list.now directory.new cells.new) }
 {
     let mut mode: u64 = 0;
     if import {
@@ -199,8 +201,8 @@ pub fn new_array(
     t: u64,
     length: i64,
 ) -> Made
-    requires { Good (lent heap slots scalars list directory cells) }
-    ensures { Performs (Calls.new_array t length) (before heap slots scalars list directory cells) (made_is result.answer) (after result.heap slots scalars list directory cells) }
+    requires { Good (state heap slots.old scalars.now list.now directory.old cells.old) }
+    ensures { Performs (Calls.new_array t length) (state heap slots.old scalars.now list.now directory.old cells.old) (made_is result.answer) (state result.heap slots.new scalars.now list.now directory.new cells.new) }
 {
     if 2 < t {
         return Made {
@@ -235,8 +237,8 @@ pub fn new_string(
     cells: &mut [u64],
     bytes: &[u8],
 ) -> Made
-    requires { Good (lent heap slots scalars list directory cells) }
-    ensures { Performs (Calls.new_string bytes.now) (before heap slots scalars list directory cells) (made_is result.answer) (after result.heap slots scalars list directory cells) }
+    requires { Good (state heap slots.old scalars.now list.now directory.old cells.old) }
+    ensures { Performs (Calls.new_string bytes.now) (state heap slots.old scalars.now list.now directory.old cells.old) (made_is result.answer) (state result.heap slots.new scalars.now list.now directory.new cells.new) }
 {
     let weights = heap.weights;
     let n = bytes.len() as u64;
@@ -259,7 +261,7 @@ pub fn new_string(
 }
 
 // What a coroutine is made with, beside its registers and frames.
-#[derive(Drop)]
+#[derive(Clone, Copy)]
 pub struct Coroutine {
     pub state: u64,
     pub sequence: u64,
@@ -271,7 +273,7 @@ pub struct Coroutine {
 
 // A coroutine made but for its frames: `count` of them go into the cells from `at` on, none where
 // the call is refused.
-#[derive(Drop)]
+#[derive(Clone, Copy)]
 struct Begun {
     made: Made,
     at: usize,
@@ -308,8 +310,8 @@ fn place_coroutine(
     size: u64,
     bytes: u64,
 ) -> Made
-    requires { Placeable (lent heap slots scalars list directory cells) bytes size × (size ≡ length registers.now + 4 * frames) }
-    ensures { Seated (before heap slots scalars list directory cells) k registers.now frames size bytes result.answer (after result.heap slots scalars list directory cells) }
+    requires { Placeable (state heap slots.old scalars.old list.now directory.old cells.old) bytes size × (size ≡ length registers.now + 4 * frames) }
+    ensures { Seated (state heap slots.old scalars.old list.now directory.old cells.old) k registers.now frames size bytes result.answer (state result.heap slots.new scalars.new list.now directory.new cells.new) }
 {
     let x = heap_slots::scalars_of_coroutine(CoroutineScalars {
         finalized: 0,
@@ -357,8 +359,8 @@ fn begin(
     registers: &[u64],
     frames: usize,
 ) -> Begun
-    requires { Good (lent heap slots scalars list directory cells) }
-    ensures { Begins (before heap slots scalars list directory cells) k registers.now frames result (after result.made.heap slots scalars list directory cells) }
+    requires { Good (state heap slots.old scalars.old list.now directory.old cells.old) }
+    ensures { Begins (state heap slots.old scalars.old list.now directory.old cells.old) k registers.now frames result (state result.made.heap slots.new scalars.new list.now directory.new cells.new) }
 {
     if 4 < k.state {
         return refuse(heap, Refusal::BadType);
@@ -399,8 +401,8 @@ pub fn new_coroutine_flat(
     registers: &[u64],
     frames: &[u64],
 ) -> Made
-    requires { Good (lent heap slots scalars list directory cells) }
-    ensures { Performs (call_of k registers.now (frames_in frames.now 0 (length frames.now / 4))) (before heap slots scalars list directory cells) (made_is result.answer) (after result.heap slots scalars list directory cells) }
+    requires { Good (state heap slots.old scalars.old list.now directory.old cells.old) }
+    ensures { Performs (call_of k registers.now (frames_in frames.now 0 (length frames.now / 4))) (state heap slots.old scalars.old list.now directory.old cells.old) (made_is result.answer) (state result.heap slots.new scalars.new list.now directory.new cells.new) }
 {
     let b = begin(
         heap,
@@ -454,8 +456,8 @@ pub fn new_coroutine(
     registers: &[u64],
     frames: &[Frame],
 ) -> Made
-    requires { Good (lent heap slots scalars list directory cells) }
-    ensures { Performs (call_of k registers.now frames.now) (before heap slots scalars list directory cells) (made_is result.answer) (after result.heap slots scalars list directory cells) }
+    requires { Good (state heap slots.old scalars.old list.now directory.old cells.old) }
+    ensures { Performs (call_of k registers.now frames.now) (state heap slots.old scalars.old list.now directory.old cells.old) (made_is result.answer) (state result.heap slots.new scalars.new list.now directory.new cells.new) }
 {
     let b = begin(
         heap,

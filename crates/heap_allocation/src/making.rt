@@ -3,7 +3,7 @@ ghost use Rattle.std.specs.Prelude.{[], ◌≡◌, ◌+◌, ◌*◌, length, rep
 ghost use Rattle.account.specs.Account.{saturated};
 ghost use Rattle.heap_slots.specs.Header.{with_region};
 ghost use Rattle.heap_slots.specs.Kinds.{ARRAY};
-ghost use Rattle.heap.specs.State.{after, before, lent, state};
+ghost use Rattle.heap.specs.State.{state};
 ghost use Rattle.heap.specs.Good.{Good};
 ghost use Rattle.heap.specs.Placing.{Object, RegionObject};
 ghost use Rattle.heap_allocation.specs.Making.{Finishes, MadePlain, MadeWords, Placeable, Prepared, Scalarless, headerOf, with_next};
@@ -22,8 +22,8 @@ pub fn new_plain(
     header: Header,
     bytes: u64,
 ) -> Made
-    requires { Good (lent heap slots scalars list directory cells) × Scalarless (with_region header 0 0 0) [] }
-    ensures { MadePlain (before heap slots scalars list directory cells) (before heap slots scalars list directory cells) header bytes result.answer (after result.heap slots scalars list directory cells) }
+    requires { Good (state heap slots.old scalars.now list.now directory.now cells.now) × Scalarless (with_region header 0 0 0) [] }
+    ensures { MadePlain (state heap slots.old scalars.now list.now directory.now cells.now) (state heap slots.old scalars.now list.now directory.now cells.now) header bytes result.answer (state result.heap slots.new scalars.now list.now directory.now cells.now) }
 {
     match placing::judge_new(heap, cells.len() as u64, bytes, 0) {
         Done::Refused(q) => Made {
@@ -48,8 +48,8 @@ pub fn new_with_scalars(
     more: Scalars,
     bytes: u64,
 ) -> Made
-    requires { Good (lent heap slots scalars list directory cells) × Object (with_region header 0 0 0) [] more }
-    ensures { MadePlain (before heap slots scalars list directory cells) (with_next (before heap slots scalars list directory cells) more) header bytes result.answer (after result.heap slots scalars list directory cells) }
+    requires { Good (state heap slots.old scalars.old list.now directory.now cells.now) × Object (with_region header 0 0 0) [] more }
+    ensures { MadePlain (state heap slots.old scalars.old list.now directory.now cells.now) (with_next (state heap slots.old scalars.old list.now directory.now cells.now) more) header bytes result.answer (state result.heap slots.new scalars.new list.now directory.now cells.now) }
 {
     match placing::judge_new(heap, cells.len() as u64, bytes, 0) {
         Done::Refused(q) => Made {
@@ -82,8 +82,8 @@ pub(crate) fn prepare(
     bytes: u64,
     size: u64,
 ) -> Settled
-    requires { Good (lent heap slots scalars list directory cells) }
-    ensures { Prepared (before heap slots scalars list directory cells) bytes size result.done (state result.heap slots.new scalars.now list.now directory.new cells.new) }
+    requires { Good (state heap slots.old scalars.now list.now directory.old cells.old) }
+    ensures { Prepared (state heap slots.old scalars.now list.now directory.old cells.old) bytes size result.done (state result.heap slots.new scalars.now list.now directory.new cells.new) }
 {
     match placing::judge_new(heap, cells.len() as u64, bytes, size) {
         Done::Refused(q) => Settled {
@@ -117,8 +117,8 @@ pub(crate) fn finish(
     header: Header,
     bytes: u64,
 ) -> Made
-    requires { Placeable (lent heap slots scalars list directory cells) bytes header.size × RegionObject (lent heap slots scalars list directory cells) header }
-    ensures { Finishes (before heap slots scalars list directory cells) header bytes result.answer (state result.heap slots.new scalars.now list.now directory.new cells.now) }
+    requires { Placeable (state heap slots.old scalars.now list.now directory.old cells.now) bytes header.size × RegionObject (state heap slots.old scalars.now list.now directory.old cells.now) header }
+    ensures { Finishes (state heap slots.old scalars.now list.now directory.old cells.now) header bytes result.answer (state result.heap slots.new scalars.now list.now directory.new cells.now) }
 {
     if header.size == 0 {
         return placing::place_plain(heap, slots, scalars, list, directory, cells, header, bytes);
@@ -139,8 +139,8 @@ pub(crate) fn new_words(
     mode: u64,
     words: &[u64],
 ) -> Made
-    requires { Good (lent heap slots scalars list directory cells) × Scalarless (headerOf kind value mode (length words.now) (length words.now)) words.now }
-    ensures { MadeWords (before heap slots scalars list directory cells) (headerOf kind value mode (length words.now) (length words.now)) (saturated (heap.weights.slot + 8 * length words.now)) words.now result.answer (state result.heap slots.new scalars.now list.now directory.new cells.new) × Good (state result.heap slots.new scalars.now list.now directory.new cells.new) }
+    requires { Good (state heap slots.old scalars.now list.now directory.old cells.old) × Scalarless (headerOf kind value mode (length words.now) (length words.now)) words.now }
+    ensures { MadeWords (state heap slots.old scalars.now list.now directory.old cells.old) (headerOf kind value mode (length words.now) (length words.now)) (saturated (heap.weights.slot + 8 * length words.now)) words.now result.answer (state result.heap slots.new scalars.now list.now directory.new cells.new) × Good (state result.heap slots.new scalars.now list.now directory.new cells.new) }
 {
     let weights = heap.weights;
     let n = words.len() as u64;
@@ -172,8 +172,8 @@ pub(crate) fn new_items(
     t: u64,
     n: u64,
 ) -> Made
-    requires { Good (lent heap slots scalars list directory cells) }
-    ensures { MadeWords (before heap slots scalars list directory cells) (headerOf ARRAY 0 t n n) (saturated (heap.weights.slot + 8 * n)) (replicate n 0) result.answer (state result.heap slots.new scalars.now list.now directory.new cells.new) × Good (state result.heap slots.new scalars.now list.now directory.new cells.new) }
+    requires { Good (state heap slots.old scalars.now list.now directory.old cells.old) }
+    ensures { MadeWords (state heap slots.old scalars.now list.now directory.old cells.old) (headerOf ARRAY 0 t n n) (saturated (heap.weights.slot + 8 * n)) (replicate n 0) result.answer (state result.heap slots.new scalars.now list.now directory.new cells.new) × Good (state result.heap slots.new scalars.now list.now directory.new cells.new) }
 {
     let weights = heap.weights;
     let bytes = word_bytes(weights.slot, n);

@@ -5,41 +5,33 @@ use borrow.Author.Rules.{rules}
 use Rattle.collections_arrays.proofs.append.Statement.{statement}
 use Rattle.collections_arrays.proofs.append.Tie as tie
 
-read-header-requires : tie.Need-read-header-requires
-read-header-requires c κs = search rules
+read_header-h-requires : tie.Need-read_header-h-requires
+read_header-h-requires c κs = search rules
 
-add_at : tie.Need-overflow-add-at
-add_at c =
-    let at-read-header : tie.After-read-header = search in
-    let start : tie.Start = search in
-    omega (arith, append-fits start.pre at-read-header.read-header.ensures)
+overflow_add-at : tie.Need-overflow_add-at
+overflow_add-at c =
+    omega (arith, append-fits c.requires c.read_header-h.ensures)
 
-mul-cells : tie.Need-overflow-mul-cells
-mul-cells c =
-    let at-read-header : tie.After-read-header = search in
-    let start : tie.Start = search in
-    omega (arith, append-fits start.pre at-read-header.read-header.ensures)
+offset_bounds-cells-at : tie.Need-offset_bounds-cells-at
+offset_bounds-cells-at c =
+    omega (arith, append-fits c.requires c.read_header-h.ensures)
 
-slice-write-cells : tie.Need-slice-write-cells
-slice-write-cells c =
-    let at-read-header : tie.After-read-header = search in
-    let start : tie.Start = search in
-    (append-fits start.pre at-read-header.read-header.ensures).0
+bounds-cells-at : tie.Need-bounds-cells-at
+bounds-cells-at c =
+    (append-fits c.requires c.read_header-h.ensures).0
 
-add-set-len : tie.Need-overflow-add-set-len
-add-set-len c =
-    let at-read-header : tie.After-read-header = search in
-    let start : tie.Start = search in
-    omega (arith, append-len-fits start.pre at-read-header.read-header.ensures)
+overflow_add-h : tie.Need-overflow_add-h
+overflow_add-h c =
+    omega (arith, append-len-fits c.requires c.read_header-h.ensures)
 
-set-len-requires : tie.Need-set-len-requires
-set-len-requires c κs = search rules
+set_len-requires : tie.Need-set_len-requires
+set_len-requires c κs = search rules
 
-same_length : tie.Need-same-length
-same_length c = search rules
+shape_of-slots : tie.Need-shape_of-slots
+shape_of-slots c = search rules
 
-same-length-2 : tie.Need-same-length-2
-same-length-2 c = search rules
+shape_of-cells : tie.Need-shape_of-cells
+shape_of-cells c = search rules
 
 returns : tie.Need-returns
 returns c = search appended
@@ -48,12 +40,12 @@ pub append_spec : {M : Type 1} → statement M
 append_spec =
     tie.close
     (tie.spec
-    read-header-requires
-    add_at
-    mul-cells
-    slice-write-cells
-    add-set-len
-    set-len-requires
-    same_length
-    same-length-2
+    read_header-h-requires
+    overflow_add-at
+    offset_bounds-cells-at
+    bounds-cells-at
+    overflow_add-h
+    set_len-requires
+    shape_of-slots
+    shape_of-cells
     returns)

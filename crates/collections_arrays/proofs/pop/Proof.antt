@@ -12,146 +12,97 @@ use Rattle.collections_arrays.proofs.pop.Tie as tie
 locate-requires : tie.Need-locate-requires
 locate-requires c κs = search rules
 
-enum-known-q : tie.Need-enum-known-q
-enum-known-q c = search rules
+enum_known-q : tie.Need-enum_known-q
+enum_known-q c = search rules
 
-enum-known-i : tie.Need-enum-known-i
-enum-known-i c = search rules
+enum_known-i : tie.Need-enum_known-i
+enum_known-i c = search rules
 
-read-header-requires : tie.Need-read-header-requires
-read-header-requires c κs =
-    let at_i : tie.After-i = search in
-    let at-locate : tie.After-locate = search in
-    let start : tie.Start = search in
-    located_fits start.pre at-locate.locate.ensures at_i.i.given.1
+read_header-h-requires : tie.Need-read_header-h-requires
+read_header-h-requires c κs =
+    located_fits c.requires c.locate.ensures c.in-At.is
 
-same_length : tie.Need-same-length
-same_length c = search rules
+shape_of-slots-then-h-eq0 : tie.Need-shape_of-slots-then-h-eq0
+shape_of-slots-then-h-eq0 c = search rules
 
-returns : tie.Need-returns
+returns-then-h-eq0 : tie.Need-returns-then-h-eq0
 unfolding reading_is
-returns c =
-    let at-then1 : tie.Then1 = search in
-    let at-read-header : tie.After-read-header = search in
-    let at_i : tie.After-i = search in
-    let at-locate : tie.After-locate = search in
-    let start : tie.Start = search in
-    pop-empty (array-here start.pre at-locate.locate.ensures at_i.i.given.1 at-read-header.read-header.ensures) at-then1.if1.taken
+returns-then-h-eq0 c =
+    pop-empty (array-here c.requires c.locate.ensures c.in-At.is c.read_header-h.ensures) c.if-h-eq0.true
 
-zero-fits-requires : tie.Need-zero-fits-requires
-zero-fits-requires c κs = search rules
+zero_fits-requires : tie.Need-zero_fits-requires
+zero_fits-requires c κs = search rules
 
-same-length-2 : tie.Need-same-length-2
-same-length-2 c = search rules
+shape_of-slots-then-not-zero_fits : tie.Need-shape_of-slots-then-not-zero_fits
+shape_of-slots-then-not-zero_fits c = search rules
 
-returns-2 : tie.Need-returns-2
+returns-then-not-zero_fits : tie.Need-returns-then-not-zero_fits
 unfolding reading_is
-returns-2 c =
-    let at-then2 : tie.Then2 = search in
-    let at-zero-fits : tie.After-zero-fits = search in
-    let at-else1 : tie.Else1 = search in
-    let at-read-header : tie.After-read-header = search in
-    let at_i : tie.After-i = search in
-    let at-locate : tie.After-locate = search in
-    let at-locate-arg : tie.After-locate-arg = search in
-    let start : tie.Start = search in
-    pop-over (array-here start.pre at-locate.locate.ensures at_i.i.given.1 at-read-header.read-header.ensures) at-else1.if1.left (sym at-zero-fits.zero-fits.ensures.is ∙ not-true _ at-then2.if2.taken)
+returns-then-not-zero_fits c =
+    pop-over (array-here c.requires c.locate.ensures c.in-At.is c.read_header-h.ensures) c.if-h-eq0.false (sym c.zero_fits.ensures.is ∙ not-true _ c.if-not-zero_fits.true-raw)
 
-sub_at : tie.Need-overflow-sub-at
-sub_at c = search rules
+overflow_sub-at : tie.Need-overflow_sub-at
+overflow_sub-at c = search rules
 
-add_at : tie.Need-overflow-add-at
-add_at c =
-    let at-read-header : tie.After-read-header = search in
-    let at_i : tie.After-i = search in
-    let at-locate : tie.After-locate = search in
-    let start : tie.Start = search in
-    omega (arith, array-inside (array-here start.pre at-locate.locate.ensures at_i.i.given.1 at-read-header.read-header.ensures))
+overflow_add-at : tie.Need-overflow_add-at
+overflow_add-at c =
+    omega (arith, array-inside (array-here c.requires c.locate.ensures c.in-At.is c.read_header-h.ensures))
 
-mul-item : tie.Need-overflow-mul-item
-mul-item c =
-    let at-read-header : tie.After-read-header = search in
-    let at_i : tie.After-i = search in
-    let at-locate : tie.After-locate = search in
-    let start : tie.Start = search in
-    omega (arith, array-inside (array-here start.pre at-locate.locate.ensures at_i.i.given.1 at-read-header.read-header.ensures))
+offset_bounds-cells-at : tie.Need-offset_bounds-cells-at
+offset_bounds-cells-at c =
+    omega (arith, array-inside (array-here c.requires c.locate.ensures c.in-At.is c.read_header-h.ensures))
 
-shared-slice-read-item : tie.Need-shared-slice-read-item
-shared-slice-read-item c =
-    let at-account : tie.After-account = search in
-    let at-read-header : tie.After-read-header = search in
-    let at_i : tie.After-i = search in
-    let at-locate : tie.After-locate = search in
-    let at-locate-arg : tie.After-locate-arg = search in
-    let start : tie.Start = search in
-    omega (arith, array-inside (array-here start.pre at-locate.locate.ensures at_i.i.given.1 at-read-header.read-header.ensures))
+bounds-cells-at : tie.Need-bounds-cells-at
+bounds-cells-at c =
+    omega (arith, array-inside (array-here c.requires c.locate.ensures c.in-At.is c.read_header-h.ensures))
 
-item-requires : tie.Need-item-requires
-item-requires c κs =
-    let at-account : tie.After-account = search in
-    let at_i : tie.After-i = search in
-    let at-locate-arg : tie.After-locate-arg = search in
-    let start : tie.Start = search in
-    start.pre
+item-v-requires : tie.Need-item-v-requires
+item-v-requires c κs =
+    c.requires
 
-sub-set-len : tie.Need-overflow-sub-set-len
-sub-set-len c = search rules
+overflow_sub-h : tie.Need-overflow_sub-h
+overflow_sub-h c = search rules
 
-set-len-requires : tie.Need-set-len-requires
-set-len-requires c κs =
-    let at_i : tie.After-i = search in
-    let at-locate : tie.After-locate = search in
-    let start : tie.Start = search in
-    located_fits start.pre at-locate.locate.ensures at_i.i.given.1
+set_len-requires : tie.Need-set_len-requires
+set_len-requires c κs =
+    located_fits c.requires c.locate.ensures c.in-At.is
 
-same-length-3 : tie.Need-same-length-3
-same-length-3 c = search rules
+shape_of-slots-in-Refused : tie.Need-shape_of-slots-in-Refused
+shape_of-slots-in-Refused c = search rules
 
-returns-3 : tie.Need-returns-3
+returns-in-Refused : tie.Need-returns-in-Refused
 unfolding reading_is
-returns-3 c = search pop-refused
+returns-in-Refused c = search pop-refused
 
-same-length-4 : tie.Need-same-length-4
-same-length-4 c = search rules
+shape_of-slots-else-not-zero_fits : tie.Need-shape_of-slots-else-not-zero_fits
+shape_of-slots-else-not-zero_fits c = search rules
 
-returns-4 : tie.Need-returns-4
+returns-else-not-zero_fits : tie.Need-returns-else-not-zero_fits
 unfolding reading_is
-returns-4 c =
-    let at-set-len : tie.After-set-len = search in
-    let at_item : tie.After-item = search in
-    let at-item-arg : tie.After-item-arg = search in
-    let at-else2 : tie.Else2 = search in
-    let at-zero-fits : tie.After-zero-fits = search in
-    let at-else1 : tie.Else1 = search in
-    let at-read-header : tie.After-read-header = search in
-    let at_i : tie.After-i = search in
-    let at-locate : tie.After-locate = search in
-    let at-locate-arg : tie.After-locate-arg = search in
-    let at-shared-slice-known2 : tie.After-shared-slice-known2 = search in
-    let start : tie.Start = search in
-    pop-taken (array-here start.pre at-locate.locate.ensures at_i.i.given.1 at-read-header.read-header.ensures) at-else1.if1.left (sym at-zero-fits.zero-fits.ensures.is ∙ not-false _ at-else2.if2.left) at-zero-fits.zero-fits.ensures.same at_item.item.ensures at-set-len.set-len.ensures
+returns-else-not-zero_fits c =
+    pop-taken (array-here c.requires c.locate.ensures c.in-At.is c.read_header-h.ensures) c.if-h-eq0.false (sym c.zero_fits.ensures.is ∙ not-false _ c.if-not-zero_fits.false-raw) c.zero_fits.ensures.same c.item-v.ensures c.set_len.ensures
 
 pub pop_spec : {M : Type 1} → statement M
 pop_spec =
     tie.close
     (tie.spec
     locate-requires
-    enum-known-q
-    enum-known-i
-    read-header-requires
-    same_length
-    returns
-    zero-fits-requires
-    same-length-2
-    returns-2
-    sub_at
-    add_at
-    mul-item
-    shared-slice-read-item
-    item-requires
-    sub-set-len
-    set-len-requires
-    same-length-3
-    returns-3
-    same-length-4
-    returns-4)
+    enum_known-q
+    enum_known-i
+    read_header-h-requires
+    shape_of-slots-then-h-eq0
+    returns-then-h-eq0
+    zero_fits-requires
+    shape_of-slots-then-not-zero_fits
+    returns-then-not-zero_fits
+    overflow_sub-at
+    overflow_add-at
+    offset_bounds-cells-at
+    bounds-cells-at
+    item-v-requires
+    overflow_sub-h
+    set_len-requires
+    shape_of-slots-in-Refused
+    returns-in-Refused
+    shape_of-slots-else-not-zero_fits
+    returns-else-not-zero_fits)

@@ -8,140 +8,98 @@ use borrow.Author.Rules.{rules}
 use Rattle.collections_arrays.proofs.push_at.Statement.{statement}
 use Rattle.collections_arrays.proofs.push_at.Tie as tie
 
-read-header-requires : tie.Need-read-header-requires
-read-header-requires c κs = search rules
+read_header-h-requires : tie.Need-read_header-h-requires
+read_header-h-requires c κs = search rules
 
-push-size-requires : tie.Need-push-size-requires
-push-size-requires c κs =
-    let at-read-header : tie.After-read-header = search in
-    let start : tie.Start = search in
-    size_small (array_at start.pre.0 start.pre.1 at-read-header.read-header.ensures)
+push_size-size-requires : tie.Need-push_size-size-requires
+push_size-size-requires c κs =
+    size_small (array_at c.requires.0 c.requires.1 c.read_header-h.ensures)
 
-sub_more : tie.Need-overflow-sub-more
-sub_more c =
-    let at-push-size : tie.After-push-size = search in
-    let at-read-header : tie.After-read-header = search in
-    let start : tie.Start = search in
-    omega (arith, at-push-size.push-size.ensures, (push-more _ _ (array-inside (array_at start.pre.0 start.pre.1 at-read-header.read-header.ensures)).0).0)
+overflow_sub-more : tie.Need-overflow_sub-more
+overflow_sub-more c =
+    omega (arith, c.push_size-size.ensures, (push-more _ _ (array-inside (array_at c.requires.0 c.requires.1 c.read_header-h.ensures)).0).0)
 
-push-bytes-requires : tie.Need-push-bytes-requires
-push-bytes-requires c κs =
-    let at-read-header : tie.After-read-header = search in
-    let start : tie.Start = search in
-    size_small (array_at start.pre.0 start.pre.1 at-read-header.read-header.ensures)
+push_bytes-requires : tie.Need-push_bytes-requires
+push_bytes-requires c κs =
+    size_small (array_at c.requires.0 c.requires.1 c.read_header-h.ensures)
 
 charge-requires : tie.Need-charge-requires
 charge-requires c κs = search rules
 
-enum_told : tie.Need-enum-told
-enum_told c = search rules
+enum_told-1 : tie.Need-enum_told-1
+enum_told-1 c = search rules
 
 unchanged-requires : tie.Need-unchanged-requires
 unchanged-requires c κs = search rules
 
-enum-known-next : tie.Need-enum-known-next
-enum-known-next c = search rules
+enum_known-next : tie.Need-enum_known-next
+enum_known-next c = search rules
 
-sub-if1 : tie.Need-overflow-sub-if1
-sub-if1 c =
-    let start : tie.Start = search in
-    start.pre.0.cells_fit
+overflow_sub-cells : tie.Need-overflow_sub-cells
+overflow_sub-cells c =
+    c.requires.0.cells_fit
 
-unchanged-requires-2 : tie.Need-unchanged-requires-2
-unchanged-requires-2 c κs = search rules
+unchanged-requires-then-cells-heap : tie.Need-unchanged-requires-then-cells-heap
+unchanged-requires-then-cells-heap c κs = search rules
 
-same_length : tie.Need-same-length
-same_length c = search rules
+shape_of-slots-then-cells-heap : tie.Need-shape_of-slots-then-cells-heap
+shape_of-slots-then-cells-heap c = search rules
 
-returns : tie.Need-returns
+returns-then-cells-heap : tie.Need-returns-then-cells-heap
 unfolding done_is
-returns c =
-    let at-unchanged2 : tie.After-unchanged2 = search in
-    let at-then1 : tie.Then1 = search in
-    let at_next : tie.After-next = search in
-    let at-charge : tie.After-charge = search in
-    let at-push-bytes : tie.After-push-bytes = search in
-    let at-push-size : tie.After-push-size = search in
-    let at-read-header : tie.After-read-header = search in
-    let at-read-header-arg : tie.After-read-header-arg = search in
-    let at-shared-slice-known2 : tie.After-shared-slice-known2 = search in
-    let start : tie.Start = search in
-    rw at-unchanged2.unchanged2.ensures (push-full (array_at start.pre.0 start.pre.1 at-read-header.read-header.ensures) at-push-bytes.push-bytes.ensures (charge-next _ _ at-charge.charge.ensures at_next.next.given.1).0 at-push-size.push-size.ensures at-then1.if1.taken)
+returns-then-cells-heap c =
+    rw c.unchanged-then-cells-heap.ensures (push-full (array_at c.requires.0 c.requires.1 c.read_header-h.ensures) c.push_bytes.ensures (charge-next _ _ c.charge.ensures c.in-Next.is).0 c.push_size-size.ensures c.if-cells-heap.true)
 
-push-grown-requires : tie.Need-push-grown-requires
-push-grown-requires c κs =
-    let at-else1 : tie.Else1 = search in
-    let at-push-size : tie.After-push-size = search in
-    let at-read-header : tie.After-read-header = search in
-    let start : tie.Start = search in
-    (start.pre.0, push_extends (array_at start.pre.0 start.pre.1 at-read-header.read-header.ensures) at-push-size.push-size.ensures at-else1.if1.left)
+push_grown-top-requires : tie.Need-push_grown-top-requires
+push_grown-top-requires c κs =
+    (c.requires.0, push_extends (array_at c.requires.0 c.requires.1 c.read_header-h.ensures) c.push_size-size.ensures c.if-cells-heap.false)
 
-add-t24 : tie.Need-overflow-add-t24
-add-t24 c = search rules
+overflow_add-result : tie.Need-overflow_add-result
+overflow_add-result c = search rules
 
-same-length-2 : tie.Need-same-length-2
-same-length-2 c = search rules
+shape_of-slots-in-Refused : tie.Need-shape_of-slots-in-Refused
+shape_of-slots-in-Refused c = search rules
 
-returns-2 : tie.Need-returns-2
+returns-in-Refused : tie.Need-returns-in-Refused
 unfolding done_is
-returns-2 c =
-    let at-unchanged : tie.After-unchanged = search in
-    let at-enum-told : tie.After-enum-told = search in
-    let at-charge : tie.After-charge = search in
-    let at-push-bytes : tie.After-push-bytes = search in
-    let at-read-header : tie.After-read-header = search in
-    let at-read-header-arg : tie.After-read-header-arg = search in
-    let start : tie.Start = search in
-    rw at-unchanged.unchanged.ensures (push-over (array_at start.pre.0 start.pre.1 at-read-header.read-header.ensures) at-push-bytes.push-bytes.ensures (charge-over _ _ at-charge.charge.ensures at-enum-told.enum_told.given.1))
+returns-in-Refused c =
+    rw c.unchanged.ensures (push-over (array_at c.requires.0 c.requires.1 c.read_header-h.ensures) c.push_bytes.ensures (charge-over _ _ c.charge.ensures c.in-Refused.is))
 
-same-length-3 : tie.Need-same-length-3
-same-length-3 c = search rules
+shape_of-slots-else-cells-heap : tie.Need-shape_of-slots-else-cells-heap
+shape_of-slots-else-cells-heap c = search rules
 
-same-length-4 : tie.Need-same-length-4
-same-length-4 c = search rules
+shape_of-directory : tie.Need-shape_of-directory
+shape_of-directory c = search rules
 
-same-length-5 : tie.Need-same-length-5
-same-length-5 c = search rules
+shape_of-cells : tie.Need-shape_of-cells
+shape_of-cells c = search rules
 
-returns-3 : tie.Need-returns-3
+returns-else-cells-heap : tie.Need-returns-else-cells-heap
 unfolding done_is
-returns-3 c =
-    let at_cells : tie.After-cells = search in
-    let at-directory : tie.After-directory = search in
-    let at-push-grown : tie.After-push-grown = search in
-    let at-push-grown-arg : tie.After-push-grown-arg = search in
-    let at-else1 : tie.Else1 = search in
-    let at_next : tie.After-next = search in
-    let at-charge : tie.After-charge = search in
-    let at-push-bytes : tie.After-push-bytes = search in
-    let at-push-size : tie.After-push-size = search in
-    let at-read-header : tie.After-read-header = search in
-    let at-read-header-arg : tie.After-read-header-arg = search in
-    let at-shared-slice-known2 : tie.After-shared-slice-known2 = search in
-    let start : tie.Start = search in
-    push-done (array_at start.pre.0 start.pre.1 at-read-header.read-header.ensures) at-push-size.push-size.ensures at-else1.if1.left at-push-grown.push-grown.ensures at-push-bytes.push-bytes.ensures (charge-next _ _ at-charge.charge.ensures at_next.next.given.1)
+returns-else-cells-heap c =
+    push-done (array_at c.requires.0 c.requires.1 c.read_header-h.ensures) c.push_size-size.ensures c.if-cells-heap.false c.push_grown-top.ensures c.push_bytes.ensures (charge-next _ _ c.charge.ensures c.in-Next.is)
 
 pub push_at_spec : {M : Type 1} → statement M
 push_at_spec =
     tie.close
     (tie.spec
-    read-header-requires
-    push-size-requires
-    sub_more
-    push-bytes-requires
+    read_header-h-requires
+    push_size-size-requires
+    overflow_sub-more
+    push_bytes-requires
     charge-requires
-    enum_told
+    enum_told-1
     unchanged-requires
-    enum-known-next
-    sub-if1
-    unchanged-requires-2
-    same_length
-    returns
-    push-grown-requires
-    add-t24
-    same-length-2
-    returns-2
-    same-length-3
-    same-length-4
-    same-length-5
-    returns-3)
+    enum_known-next
+    overflow_sub-cells
+    unchanged-requires-then-cells-heap
+    shape_of-slots-then-cells-heap
+    returns-then-cells-heap
+    push_grown-top-requires
+    overflow_add-result
+    shape_of-slots-in-Refused
+    returns-in-Refused
+    shape_of-slots-else-cells-heap
+    shape_of-directory
+    shape_of-cells
+    returns-else-cells-heap)

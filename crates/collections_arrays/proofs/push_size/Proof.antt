@@ -5,17 +5,23 @@ use borrow.Author.Rules.{rules}
 use Rattle.collections_arrays.proofs.push_size.Statement.{statement}
 use Rattle.collections_arrays.proofs.push_size.Tie as tie
 
+returns-then-size-lt2 : tie.Need-returns-then-size-lt2
+returns-then-size-lt2 c = rw (eq-eqb _ _ c.if-len-size.true) (omega (arith, c.if-size-lt2.true))
+
+overflow_mul-result : tie.Need-overflow_mul-result
+overflow_mul-result c = search rules
+
+returns-then-len-size : tie.Need-returns-then-len-size
+returns-then-len-size c = rw (eq-eqb _ _ c.if-len-size.true) (omega (arith, c.if-size-lt2.false))
+
 returns : tie.Need-returns
-returns c = rw (eq-eqb _ _ c.before.if1.true) (omega (arith, c.if2.true))
-
-mul-result : tie.Need-overflow-mul-result
-mul-result c = search rules
-
-returns-2 : tie.Need-returns-2
-returns-2 c = rw (eq-eqb _ _ c.before.if1.true) (omega (arith, c.if2.false))
-
-returns-3 : tie.Need-returns-3
-returns-3 c = rw (ne_eqb _ _ c.if1.false)
+returns c = rw (ne_eqb _ _ c.if-len-size.false)
 
 pub push_size_spec : {M : Type 1} → statement M
-push_size_spec = tie.close (tie.spec returns mul-result returns-2 returns-3)
+push_size_spec =
+    tie.close
+    (tie.spec
+    returns-then-size-lt2
+    overflow_mul-result
+    returns-then-len-size
+    returns)

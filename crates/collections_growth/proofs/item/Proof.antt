@@ -7,11 +7,16 @@ use Rattle.collections_growth.proofs.item.Tie as tie
 deref-requires : tie.Need-deref-requires
 deref-requires c κs = search rules
 
-returns : tie.Need-returns
-returns c = search item_dynamic
+returns-then-t-eq-DYNAMIC : tie.Need-returns-then-t-eq-DYNAMIC
+returns-then-t-eq-DYNAMIC c = search item_dynamic
 
-returns-2 : tie.Need-returns-2
-returns-2 c = item_plain c.if1.false
+returns : tie.Need-returns
+returns c = item_plain c.if-t-eq-DYNAMIC.false
 
 pub item_spec : {M : Type 1} → statement M
-item_spec = tie.close (tie.spec deref-requires returns returns-2)
+item_spec =
+    tie.close
+    (tie.spec
+    deref-requires
+    returns-then-t-eq-DYNAMIC
+    returns)

@@ -7,51 +7,51 @@ use borrow.Author.Rules.{rules}
 use Rattle.collections_growth.proofs.longer.Statement.{statement}
 use Rattle.collections_growth.proofs.longer.Tie as tie
 
-read-header-requires : tie.Need-read-header-requires
-read-header-requires c κs =
+read_header-h-requires : tie.Need-read_header-h-requires
+read_header-h-requires c κs =
     let start : tie.Start = search in
-    slot-header-fits start.pre.0 start.pre.1
+    slot-header-fits start.requires.0 start.requires.1
 
-same_length : tie.Need-same-length
-same_length c = search rules
+shape_of-slots-then-size-h : tie.Need-shape_of-slots-then-size-h
+shape_of-slots-then-size-h c = search rules
 
-returns : tie.Need-returns
-returns c =
-    let at-then1 : tie.Then1 = search in
-    let at-read-header : tie.After-read-header = search in
+returns-then-size-h : tie.Need-returns-then-size-h
+returns-then-size-h c =
+    let at-then1 : tie.Then-size-h = search in
+    let at-read-header : tie.After-read_header-h = search in
     let start : tie.Start = search in
-    same-grown start.pre.0 start.pre.1 (omega (arith, start.pre.1.more, ap (λ (h : Header). h.size) at-read-header.read-header.ensures, at-then1.if1.taken))
+    same-grown start.requires.0 start.requires.1 (omega (arith, start.requires.1.more, ap (λ (h : Header). h.size) at-read-header.read_header-h.ensures, at-then1.if-size-h.true))
 
-mul-grow : tie.Need-overflow-mul-grow
-mul-grow c = search rules
+overflow_mul-heap : tie.Need-overflow_mul-heap
+overflow_mul-heap c = search rules
 
 grow-requires : tie.Need-grow-requires
 grow-requires c κs =
     let start : tie.Start = search in
-    grow_asks start.pre.0 start.pre.1
+    grow_asks start.requires.0 start.requires.1
 
-same-length-2 : tie.Need-same-length-2
-same-length-2 c = search rules
+shape_of-slots : tie.Need-shape_of-slots
+shape_of-slots c = search rules
 
-same-length-3 : tie.Need-same-length-3
-same-length-3 c = search rules
+shape_of-directory : tie.Need-shape_of-directory
+shape_of-directory c = search rules
 
-same-length-4 : tie.Need-same-length-4
-same-length-4 c = search rules
+shape_of-cells : tie.Need-shape_of-cells
+shape_of-cells c = search rules
 
-returns-2 : tie.Need-returns-2
-returns-2 c = search
+returns : tie.Need-returns
+returns c = search
 
 pub longer_spec : {M : Type 1} → statement M
 longer_spec =
     tie.close
     (tie.spec
-    read-header-requires
-    same_length
-    returns
-    mul-grow
+    read_header-h-requires
+    shape_of-slots-then-size-h
+    returns-then-size-h
+    overflow_mul-heap
     grow-requires
-    same-length-2
-    same-length-3
-    same-length-4
-    returns-2)
+    shape_of-slots
+    shape_of-directory
+    shape_of-cells
+    returns)

@@ -4,24 +4,31 @@ use borrow.Author.Rules.{rules}
 use Rattle.collections_growth.proofs.region.Statement.{statement}
 use Rattle.collections_growth.proofs.region.Tie as tie
 
-add-to : tie.Need-overflow-add-to
-add-to c = search rules
+overflow_add-to : tie.Need-overflow_add-to
+overflow_add-to c = search rules
 
-mul-result : tie.Need-overflow-mul-result
-mul-result c = search rules
+offset_bounds-cells-from : tie.Need-offset_bounds-cells-from
+offset_bounds-cells-from c = search rules
 
-sub-result : tie.Need-overflow-sub-result
-sub-result c = search rules
+slice_bounds-result-count : tie.Need-slice_bounds-result-count
+slice_bounds-result-count c = search rules
 
-part-result-start : tie.Need-slice-bounds-result-start
-part-result-start c = search rules
+slice_bounds-result-start : tie.Need-slice_bounds-result-start
+slice_bounds-result-start c = search rules
 
-part-result-end : tie.Need-slice-bounds-result-end
-part-result-end c = search rules
+slice_bounds-result-end : tie.Need-slice_bounds-result-end
+slice_bounds-result-end c = search rules
 
 returns : tie.Need-returns
-returns c = region-part c.before.args.h c.before.args.cells.now
+returns c = region-part c.args.h c.args.cells.now
 
 pub region_spec : {M : Type 1} → statement M
 region_spec =
-    tie.close (tie.spec add-to mul-result sub-result part-result-start part-result-end returns)
+    tie.close
+    (tie.spec
+    overflow_add-to
+    offset_bounds-cells-from
+    slice_bounds-result-count
+    slice_bounds-result-start
+    slice_bounds-result-end
+    returns)

@@ -7,4 +7,7 @@ returns : tie.Need-returns
 returns c = ends_so c.args.x
 
 pub ended_spec : {M : Type 1} → statement M
-ended_spec = tie.close (tie.spec returns)
+ended_spec =
+    tie.close
+    (tie.spec
+    returns)

@@ -9,55 +9,49 @@ use Rattle.collections_iterators.proofs.iter_cursor.Tie as tie
 locate-requires : tie.Need-locate-requires
 locate-requires c κs = search rules
 
-enum-known-q : tie.Need-enum-known-q
-enum-known-q c = search rules
+enum_known-q : tie.Need-enum_known-q
+enum_known-q c = search rules
 
-enum-known-i : tie.Need-enum-known-i
-enum-known-i c = search rules
+enum_known-i : tie.Need-enum_known-i
+enum_known-i c = search rules
 
-read-header-requires : tie.Need-read-header-requires
-read-header-requires c κs =
-    let at_i : tie.After-i = search in
-    let at-locate : tie.After-locate = search in
-    let start : tie.Start = search in
-    located_fits start.pre at-locate.locate.ensures at_i.i.given.1
+read_header-h-requires : tie.Need-read_header-h-requires
+read_header-h-requires c κs =
+    located_fits c.requires c.locate.ensures c.in-At.is
 
-read-iterator-requires : tie.Need-read-iterator-requires
-read-iterator-requires c κs =
-    let at_i : tie.After-i = search in
-    let at-locate : tie.After-locate = search in
-    let start : tie.Start = search in
-    iterator-scalars-fit start.pre at-locate.locate.ensures at_i.i.given.1
+read_iterator-x-requires : tie.Need-read_iterator-x-requires
+read_iterator-x-requires c κs =
+    iterator-scalars-fit c.requires c.locate.ensures c.in-At.is
 
-row-at-requires : tie.Need-row-at-requires
-row-at-requires c κs = search rules
+row_at-requires : tie.Need-row_at-requires
+row_at-requires c κs = search rules
 
-returns : tie.Need-returns
+returns-then-row_at-eq-ARRAY : tie.Need-returns-then-row_at-eq-ARRAY
 unfolding cursor_seen
-returns c = search cursor-index
+returns-then-row_at-eq-ARRAY c = search cursor-index
 
-cursor-of-requires : tie.Need-cursor-of-requires
-cursor-of-requires c κs = search cursor-fits
+cursor_of-requires : tie.Need-cursor_of-requires
+cursor_of-requires c κs = search cursor-fits
 
-returns-2 : tie.Need-returns-2
+returns-in-Refused : tie.Need-returns-in-Refused
 unfolding cursor_seen
-returns-2 c = search cursor-refused
+returns-in-Refused c = search cursor-refused
 
-returns-3 : tie.Need-returns-3
+returns-else-row_at-eq-ARRAY : tie.Need-returns-else-row_at-eq-ARRAY
 unfolding cursor_seen
-returns-3 c = search cursor-map
+returns-else-row_at-eq-ARRAY c = search cursor-map
 
 pub iter_cursor_spec : {M : Type 1} → statement M
 iter_cursor_spec =
     tie.close
     (tie.spec
     locate-requires
-    enum-known-q
-    enum-known-i
-    read-header-requires
-    read-iterator-requires
-    row-at-requires
-    returns
-    cursor-of-requires
-    returns-2
-    returns-3)
+    enum_known-q
+    enum_known-i
+    read_header-h-requires
+    read_iterator-x-requires
+    row_at-requires
+    returns-then-row_at-eq-ARRAY
+    cursor_of-requires
+    returns-in-Refused
+    returns-else-row_at-eq-ARRAY)

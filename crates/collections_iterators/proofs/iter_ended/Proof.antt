@@ -8,26 +8,31 @@ use Rattle.collections_iterators.proofs.iter_ended.Tie as tie
 locate-requires : tie.Need-locate-requires
 locate-requires c κs = search rules
 
-enum-known-q : tie.Need-enum-known-q
-enum-known-q c = search rules
+enum_known-q : tie.Need-enum_known-q
+enum_known-q c = search rules
 
-enum-known-i : tie.Need-enum-known-i
-enum-known-i c = search rules
+enum_known-i : tie.Need-enum_known-i
+enum_known-i c = search rules
 
-read-iterator-requires : tie.Need-read-iterator-requires
-read-iterator-requires c κs =
-    let at_i : tie.After-i = search in
-    let at-locate : tie.After-locate = search in
-    let start : tie.Start = search in
-    iterator-scalars-fit start.pre at-locate.locate.ensures at_i.i.given.1
+read_iterator-x-requires : tie.Need-read_iterator-x-requires
+read_iterator-x-requires c κs =
+    iterator-scalars-fit c.requires c.locate.ensures c.in-At.is
 
-returns : tie.Need-returns
+returns-in-Refused : tie.Need-returns-in-Refused
 unfolding test_is
-returns c = search ended-refused
+returns-in-Refused c = search ended-refused
 
-returns-2 : tie.Need-returns-2
+returns-in-At : tie.Need-returns-in-At
 unfolding test_is
-returns-2 c = search ended_read
+returns-in-At c = search ended_read
 
 pub iter_ended_spec : {M : Type 1} → statement M
-iter_ended_spec = tie.close (tie.spec locate-requires enum-known-q enum-known-i read-iterator-requires returns returns-2)
+iter_ended_spec =
+    tie.close
+    (tie.spec
+    locate-requires
+    enum_known-q
+    enum_known-i
+    read_iterator-x-requires
+    returns-in-Refused
+    returns-in-At)

@@ -10,103 +10,72 @@ use Rattle.collections_iterators.proofs.iter_next.Tie as tie
 locate-requires : tie.Need-locate-requires
 locate-requires c κs = search rules
 
-enum-known-q : tie.Need-enum-known-q
-enum-known-q c = search rules
+enum_known-q : tie.Need-enum_known-q
+enum_known-q c = search rules
 
-enum-known-i : tie.Need-enum-known-i
-enum-known-i c = search rules
+enum_known-i : tie.Need-enum_known-i
+enum_known-i c = search rules
 
-read-header-requires : tie.Need-read-header-requires
-read-header-requires c κs =
-    let at_i : tie.After-i = search in
-    let at-locate : tie.After-locate = search in
-    let start : tie.Start = search in
-    located_fits start.pre at-locate.locate.ensures at_i.i.given.1
+read_header-h-requires : tie.Need-read_header-h-requires
+read_header-h-requires c κs =
+    located_fits c.requires c.locate.ensures c.in-At.is
 
-read-iterator-requires : tie.Need-read-iterator-requires
-read-iterator-requires c κs =
-    let at_i : tie.After-i = search in
-    let at-locate : tie.After-locate = search in
-    let start : tie.Start = search in
-    iterator-scalars-fit start.pre at-locate.locate.ensures at_i.i.given.1
+read_iterator-x-requires : tie.Need-read_iterator-x-requires
+read_iterator-x-requires c κs =
+    iterator-scalars-fit c.requires c.locate.ensures c.in-At.is
 
-advance-requires : tie.Need-advance-requires
-advance-requires c κs = search cursor-fits
+advance-v-requires : tie.Need-advance-v-requires
+advance-v-requires c κs = search cursor-fits
 
-scalars-of-iterator-requires : tie.Need-scalars-of-iterator-requires
-scalars-of-iterator-requires c κs = search rules
+scalars_of_iterator-requires : tie.Need-scalars_of_iterator-requires
+scalars_of_iterator-requires c κs = search rules
 
-write-scalars-requires : tie.Need-write-scalars-requires
-write-scalars-requires c κs =
-    let at_i : tie.After-i = search in
-    let at-locate : tie.After-locate = search in
-    let start : tie.Start = search in
-    iterator-scalars-fit start.pre at-locate.locate.ensures at_i.i.given.1
+write_scalars-requires : tie.Need-write_scalars-requires
+write_scalars-requires c κs =
+    iterator-scalars-fit c.requires c.locate.ensures c.in-At.is
 
-enum_told : tie.Need-enum-told
-enum_told c = search rules
+enum_told-1 : tie.Need-enum_told-1
+enum_told-1 c = search rules
 
-enum-known-item : tie.Need-enum-known-item
-enum-known-item c = search rules
+enum_known-item : tie.Need-enum_known-item
+enum_known-item c = search rules
 
-returns : tie.Need-returns
+returns-in-Refused : tie.Need-returns-in-Refused
 unfolding perhaps_is
-returns c = search next-refused
+returns-in-Refused c = search next-refused
 
-same_length : tie.Need-same-length
-same_length c = search rules
+shape_of-scalars-in-End : tie.Need-shape_of-scalars-in-End
+shape_of-scalars-in-End c = search rules
 
-returns-2 : tie.Need-returns-2
+returns-in-End : tie.Need-returns-in-End
 unfolding perhaps_is
-returns-2 c =
-    let at-enum-told : tie.After-enum-told = search in
-    let at-scalars : tie.After-scalars = search in
-    let at-write-scalars : tie.After-write-scalars = search in
-    let at-scalars-of-iterator : tie.After-scalars-of-iterator = search in
-    let at-advance : tie.After-advance = search in
-    let at-read-iterator : tie.After-read-iterator = search in
-    let at-read-header : tie.After-read-header = search in
-    let at_i : tie.After-i = search in
-    let at-locate : tie.After-locate = search in
-    let at-shared-slice-known2 : tie.After-shared-slice-known2 = search in
-    let start : tie.Start = search in
-    next-end start.pre at-locate.locate.ensures at_i.i.given.1 at-read-header.read-header.ensures at-read-iterator.read-iterator.ensures at-advance.advance.ensures at-scalars-of-iterator.scalars-of-iterator.ensures at-write-scalars.write-scalars.ensures at-enum-told.enum_told.given.1
+returns-in-End c =
+    next-end c.requires c.locate.ensures c.in-At.is c.read_header-h.ensures c.read_iterator-x.ensures c.advance-v.ensures c.scalars_of_iterator.ensures c.write_scalars.ensures c.in-End.is
 
-same-length-2 : tie.Need-same-length-2
-same-length-2 c = search rules
+shape_of-scalars-in-Item : tie.Need-shape_of-scalars-in-Item
+shape_of-scalars-in-Item c = search rules
 
-returns-3 : tie.Need-returns-3
+returns-in-Item : tie.Need-returns-in-Item
 unfolding perhaps_is
-returns-3 c =
-    let at_item : tie.After-item = search in
-    let at-scalars : tie.After-scalars = search in
-    let at-write-scalars : tie.After-write-scalars = search in
-    let at-scalars-of-iterator : tie.After-scalars-of-iterator = search in
-    let at-advance : tie.After-advance = search in
-    let at-read-iterator : tie.After-read-iterator = search in
-    let at-read-header : tie.After-read-header = search in
-    let at_i : tie.After-i = search in
-    let at-locate : tie.After-locate = search in
-    let at-shared-slice-known2 : tie.After-shared-slice-known2 = search in
-    let start : tie.Start = search in
-    next-item start.pre at-locate.locate.ensures at_i.i.given.1 at-read-header.read-header.ensures at-read-iterator.read-iterator.ensures at-advance.advance.ensures at-scalars-of-iterator.scalars-of-iterator.ensures at-write-scalars.write-scalars.ensures at_item.item.given.1
+returns-in-Item c =
+    next-item c.requires c.locate.ensures c.in-At.is c.read_header-h.ensures c.read_iterator-x.ensures c.advance-v.ensures c.scalars_of_iterator.ensures c.write_scalars.ensures c.in-Item.is
 
 pub iter_next_spec : {M : Type 1} → statement M
 iter_next_spec =
     tie.close
     (tie.spec
     locate-requires
-    enum-known-q
-    enum-known-i
-    read-header-requires
-    read-iterator-requires
-    advance-requires
-    scalars-of-iterator-requires
-    write-scalars-requires
-    enum_told
-    enum-known-item
-    returns
-    same_length
-    returns-2
-    same-length-2
-    returns-3)
+    enum_known-q
+    enum_known-i
+    read_header-h-requires
+    read_iterator-x-requires
+    advance-v-requires
+    scalars_of_iterator-requires
+    write_scalars-requires
+    enum_told-1
+    enum_known-item
+    returns-in-Refused
+    shape_of-scalars-in-End
+    returns-in-End
+    shape_of-scalars-in-Item
+    returns-in-Item)

@@ -5,20 +5,27 @@ use borrow.Author.Rules.{rules}
 use Rattle.collections_iterators.proofs.moved_to.Statement.{statement}
 use Rattle.collections_iterators.proofs.moved_to.Tie as tie
 
-cast-epoch : tie.Need-overflow-cast-epoch
-cast-epoch c = search rules
+overflow_cast-epoch : tie.Need-overflow_cast-epoch
+overflow_cast-epoch c = search rules
 
-enum_told : tie.Need-enum-told
-enum_told c = search rules
+enum_told-1 : tie.Need-enum_told-1
+enum_told-1 c = search rules
 
-enum-known-last : tie.Need-enum-known-last
-enum-known-last c = search rules
+enum_known-last : tie.Need-enum_known-last
+enum_known-last c = search rules
 
-returns : tie.Need-returns
-returns c = rw c.enum_told.given.1 (moves_first (omega arith))
+returns-in-Never : tie.Need-returns-in-Never
+returns-in-Never c = rw c.in-Never.is (moves_first (omega arith))
 
-returns-2 : tie.Need-returns-2
-returns-2 c = rw c.before.last.given.1 (moves_on (omega arith))
+returns-in-Seq : tie.Need-returns-in-Seq
+returns-in-Seq c = rw c.in-Seq.is (moves_on (omega arith))
 
 pub moved_to_spec : {M : Type 1} → statement M
-moved_to_spec = tie.close (tie.spec cast-epoch enum_told enum-known-last returns returns-2)
+moved_to_spec =
+    tie.close
+    (tie.spec
+    overflow_cast-epoch
+    enum_told-1
+    enum_known-last
+    returns-in-Never
+    returns-in-Seq)

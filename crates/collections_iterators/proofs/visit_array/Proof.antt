@@ -7,46 +7,41 @@ use Rattle.collections_iterators.proofs.visit_array.Tie as tie
 ended-requires : tie.Need-ended-requires
 ended-requires c κs = search rules
 
+returns-then-h-x : tie.Need-returns-then-h-x
+returns-then-h-x c = search array-ends
+
+overflow_add-at : tie.Need-overflow_add-at
+overflow_add-at c = search rules
+
+offset_bounds-cells-at : tie.Need-offset_bounds-cells-at
+offset_bounds-cells-at c = search rules
+
+bounds-cells-at : tie.Need-bounds-cells-at
+bounds-cells-at c = search rules
+
+item-w-requires : tie.Need-item-w-requires
+item-w-requires c κs = search rules
+
+overflow_add-c : tie.Need-overflow_add-c
+overflow_add-c c = search rules
+
+moved_to-requires : tie.Need-moved_to-requires
+moved_to-requires c κs = search rules
+
 returns : tie.Need-returns
-returns c = search array-ends
-
-add_at : tie.Need-overflow-add-at
-add_at c = search rules
-
-mul-item : tie.Need-overflow-mul-item
-mul-item c = search rules
-
-shared-slice-read-item : tie.Need-shared-slice-read-item
-shared-slice-read-item c = search rules
-
-item-requires : tie.Need-item-requires
-item-requires c κs = search rules
-
-add-t13 : tie.Need-overflow-add-t13
-add-t13 c = search rules
-
-moved-to-requires : tie.Need-moved-to-requires
-moved-to-requires c κs = search rules
-
-returns-2 : tie.Need-returns-2
-returns-2 c =
-    let at-moved-to : tie.After-moved-to = search in
-    let at_item : tie.After-item = search in
-    let at-else1 : tie.Else1 = search in
-    let at-shared-slice-known2 : tie.After-shared-slice-known2 = search in
-    let start : tie.Start = search in
-    array_visits start.pre.1.0 at-else1.if1.left at_item.item.ensures at-moved-to.moved_to.ensures
+returns c =
+    array_visits c.requires.1.0 c.if-h-x.false c.item-w.ensures c.moved_to.ensures
 
 pub visit_array_spec : {M : Type 1} → statement M
 visit_array_spec =
     tie.close
     (tie.spec
     ended-requires
-    returns
-    add_at
-    mul-item
-    shared-slice-read-item
-    item-requires
-    add-t13
-    moved-to-requires
-    returns-2)
+    returns-then-h-x
+    overflow_add-at
+    offset_bounds-cells-at
+    bounds-cells-at
+    item-w-requires
+    overflow_add-c
+    moved_to-requires
+    returns)

@@ -5,122 +5,82 @@ use borrow.Author.Rules.{rules}
 use Rattle.collections_iterators.proofs.visit_map.Statement.{statement}
 use Rattle.collections_iterators.proofs.visit_map.Tie as tie
 
-map-of-requires : tie.Need-map-of-requires
-map-of-requires c κs = search rules
+map_of-m-requires : tie.Need-map_of-m-requires
+map_of-m-requires c κs = search rules
 
 region-requires : tie.Need-region-requires
 region-requires c κs = search rules
 
-cursor-of-requires : tie.Need-cursor-of-requires
-cursor-of-requires c κs = search rules
+cursor_of-requires : tie.Need-cursor_of-requires
+cursor_of-requires c κs = search rules
 
-step-requires : tie.Need-step-requires
-step-requires c κs =
-    let at-region : tie.After-region = search in
-    let at-map-of : tie.After-map-of = search in
-    let start : tie.Start = search in
-    rw (at-map-of.map_of.ensures, at-region.region.ensures) start.pre.1.0.good
+step-s-requires : tie.Need-step-s-requires
+step-s-requires c κs =
+    rw (c.map_of-m.ensures, c.region.ensures) c.requires.1.0.good
 
-enum_told : tie.Need-enum-told
-enum_told c = search rules
+enum_told-1 : tie.Need-enum_told-1
+enum_told-1 c = search rules
 
 ended-requires : tie.Need-ended-requires
 ended-requires c κs = search rules
 
-enum-known-found : tie.Need-enum-known-found
-enum-known-found c = search rules
+enum_known-found : tie.Need-enum_known-found
+enum_known-found c = search rules
 
-region-requires-2 : tie.Need-region-requires-2
-region-requires-2 c κs =
-    let start : tie.Start = search in
-    start.pre.1.0.region
+region-requires-in-At : tie.Need-region-requires-in-At
+region-requires-in-At c κs =
+    c.requires.1.0.region
 
 entry-requires : tie.Need-entry-requires
 entry-requires c κs =
-    let at-region2 : tie.After-region2 = search in
-    let at-map-of : tie.After-map-of = search in
-    let start : tie.Start = search in
-    rw (at-map-of.map_of.ensures, at-region2.region2.ensures) start.pre.1.0.good
+    rw (c.map_of-m.ensures, c.region-in-At.ensures) c.requires.1.0.good
 
-enum-told-2 : tie.Need-enum-told-2
-enum-told-2 c = search rules
+enum_told-in-Outside : tie.Need-enum_told-in-Outside
+enum_told-in-Outside c = search rules
 
-ended-requires-2 : tie.Need-ended-requires-2
-ended-requires-2 c κs = search rules
+ended-requires-in-Outside : tie.Need-ended-requires-in-Outside
+ended-requires-in-Outside c κs = search rules
 
-enum-known-e : tie.Need-enum-known-e
-enum-known-e c = search rules
+enum_known-e : tie.Need-enum_known-e
+enum_known-e c = search rules
 
-item-requires : tie.Need-item-requires
-item-requires c κs =
-    let at-found : tie.After-found = search in
-    let at-map-of : tie.After-map-of = search in
-    let start : tie.Start = search in
-    start.pre.0
+item-w-requires : tie.Need-item-w-requires
+item-w-requires c κs =
+    c.requires.0
 
-moved-to-requires : tie.Need-moved-to-requires
-moved-to-requires c κs = search rules
+moved_to-requires : tie.Need-moved_to-requires
+moved_to-requires c κs = search rules
 
-returns : tie.Need-returns
-returns c =
-    let at_ended : tie.After-ended = search in
-    let at-enum-told : tie.After-enum-told = search in
-    let at-step : tie.After-step = search in
-    let at-cursor-of : tie.After-cursor-of = search in
-    let at-region : tie.After-region = search in
-    let at-map-of : tie.After-map-of = search in
-    let at-shared-slice-known3 : tie.After-shared-slice-known3 = search in
-    let start : tie.Start = search in
-    map-ends _ start.args.h start.args.y start.args.x at-step.step.result at-map-of.map_of.ensures at-region.region.ensures at-cursor-of.cursor-of.ensures at-step.step.ensures at-enum-told.enum_told.given.1 start.pre.1.1 at_ended.ended.ensures
+returns-in-Nothing : tie.Need-returns-in-Nothing
+returns-in-Nothing c =
+    map-ends _ c.args.h c.args.y c.args.x c.step-s.result c.map_of-m.ensures c.region.ensures c.cursor_of.ensures c.step-s.ensures c.in-Nothing.is c.requires.1.1 c.ended.ensures
 
-returns-2 : tie.Need-returns-2
-returns-2 c =
-    let at-enum-told2 : tie.After-enum-told2 = search in
-    let at_entry : tie.After-entry = search in
-    let at-region2 : tie.After-region2 = search in
-    let at-found : tie.After-found = search in
-    let at-step : tie.After-step = search in
-    let at-cursor-of : tie.After-cursor-of = search in
-    let at-region : tie.After-region = search in
-    let at-map-of : tie.After-map-of = search in
-    let at-shared-slice-known3 : tie.After-shared-slice-known3 = search in
-    let start : tie.Start = search in
-    absurd (map-inside (state start.args.heap start.args.slots.now start.args.scalars.now start.args.list.now start.args.directory.now start.args.cells.now) start.args.h start.args.y start.args.x at-step.step.result at-map-of.map_of.ensures at-region.region.ensures at-cursor-of.cursor-of.ensures at-step.step.ensures at-found.found.given.1 at-region2.region2.ensures at_entry.entry.ensures at-enum-told2.enum-told2.given.1)
+returns-in-Outside : tie.Need-returns-in-Outside
+returns-in-Outside c =
+    absurd (map-inside (state c.args.heap c.args.slots.now c.args.scalars.now c.args.list.now c.args.directory.now c.args.cells.now) c.args.h c.args.y c.args.x c.step-s.result c.map_of-m.ensures c.region.ensures c.cursor_of.ensures c.step-s.ensures c.in-At.is c.region-in-At.ensures c.entry.ensures c.in-Outside.is)
 
-returns-3 : tie.Need-returns-3
-returns-3 c =
-    let at-moved-to : tie.After-moved-to = search in
-    let at_item : tie.After-item = search in
-    let at-e : tie.After-e = search in
-    let at_entry : tie.After-entry = search in
-    let at-region2 : tie.After-region2 = search in
-    let at-found : tie.After-found = search in
-    let at-step : tie.After-step = search in
-    let at-cursor-of : tie.After-cursor-of = search in
-    let at-region : tie.After-region = search in
-    let at-map-of : tie.After-map-of = search in
-    let at-shared-slice-known3 : tie.After-shared-slice-known3 = search in
-    let start : tie.Start = search in
-    map_visits _ start.args.h start.args.y start.args.x at-step.step.result at-map-of.map_of.ensures at-region.region.ensures at-cursor-of.cursor-of.ensures at-step.step.ensures at-found.found.given.1 at-region2.region2.ensures at_entry.entry.ensures at-e.e.given.1 at_item.item.ensures at-moved-to.moved_to.ensures
+returns-in-Place : tie.Need-returns-in-Place
+returns-in-Place c =
+    map_visits _ c.args.h c.args.y c.args.x c.step-s.result c.map_of-m.ensures c.region.ensures c.cursor_of.ensures c.step-s.ensures c.in-At.is c.region-in-At.ensures c.entry.ensures c.in-Place.is c.item-w.ensures c.moved_to.ensures
 
 pub visit_map_spec : {M : Type 1} → statement M
 visit_map_spec =
     tie.close
     (tie.spec
-    map-of-requires
+    map_of-m-requires
     region-requires
-    cursor-of-requires
-    step-requires
-    enum_told
+    cursor_of-requires
+    step-s-requires
+    enum_told-1
     ended-requires
-    enum-known-found
-    region-requires-2
+    enum_known-found
+    region-requires-in-At
     entry-requires
-    enum-told-2
-    ended-requires-2
-    enum-known-e
-    item-requires
-    moved-to-requires
-    returns
-    returns-2
-    returns-3)
+    enum_told-in-Outside
+    ended-requires-in-Outside
+    enum_known-e
+    item-w-requires
+    moved_to-requires
+    returns-in-Nothing
+    returns-in-Outside
+    returns-in-Place)

@@ -4,39 +4,39 @@ use borrow.Author.Rules.{rules}
 use Rattle.collections_maps.proofs.step_lent.Statement.{statement}
 use Rattle.collections_maps.proofs.step_lent.Tie as tie
 
-step-cursor-requires : tie.Need-step-cursor-requires
-step-cursor-requires c κs = search rules
+step_cursor-requires : tie.Need-step_cursor-requires
+step_cursor-requires c κs = search rules
 
-enum-known-q : tie.Need-enum-known-q
-enum-known-q c = search rules
+enum_known-q : tie.Need-enum_known-q
+enum_known-q c = search rules
 
-enum-known-s : tie.Need-enum-known-s
-enum-known-s c = search rules
+enum_known-s : tie.Need-enum_known-s
+enum_known-s c = search rules
 
-enum_told : tie.Need-enum-told
-enum_told c = search rules
+enum_told-1 : tie.Need-enum_told-1
+enum_told-1 c = search rules
 
-enum-known-found : tie.Need-enum-known-found
-enum-known-found c = search rules
+enum_known-found : tie.Need-enum_known-found
+enum_known-found c = search rules
 
-returns : tie.Need-returns
-returns c = search lent-kept
+returns-in-Refused : tie.Need-returns-in-Refused
+returns-in-Refused c = search lent-kept
 
-returns-2 : tie.Need-returns-2
-returns-2 c = search lent-ended
+returns-in-Nothing : tie.Need-returns-in-Nothing
+returns-in-Nothing c = search lent-ended
 
-returns-3 : tie.Need-returns-3
-returns-3 c = search lent-moved
+returns-in-At : tie.Need-returns-in-At
+returns-in-At c = search lent-moved
 
 pub step_lent_spec : {M : Type 1} → statement M
 step_lent_spec =
     tie.close
     (tie.spec
-    step-cursor-requires
-    enum-known-q
-    enum-known-s
-    enum_told
-    enum-known-found
-    returns
-    returns-2
-    returns-3)
+    step_cursor-requires
+    enum_known-q
+    enum_known-s
+    enum_told-1
+    enum_known-found
+    returns-in-Refused
+    returns-in-Nothing
+    returns-in-At)

@@ -1,4 +1,4 @@
-use mathlib.Core.Path.{ap, sym, ◌∙◌}
+use mathlib.Core.Path.{ap, ◌∙◌}
 use native.Mathlib.Omega.{arith}
 use Rattle.heap_slots.specs.declared.Header.{Header}
 use Rattle.heap.proofs.PlaceLaws.{coroutine-max}
@@ -7,123 +7,116 @@ use Rattle.collector.proofs.Looking.{look-vacant, look-weighable, look-stays, lo
 use borrow.Author.Rules.{rules}
 use Rattle.collector.proofs.sweep_slot.Statement.{statement}
 use Rattle.collector.proofs.sweep_slot.Tie as tie
-use Rattle.collector.proofs.sweep_slot.Reads as reads
-use Rattle.collector.proofs.sweep_slot.Lts as lts
-use Rattle.collector.proofs.empty.Reads as empty-reads
-use Rattle.collector.proofs.weigh.Reads as weigh-reads
-use Rattle.heap.proofs.placing.coroutine_of.Reads as coroutine-of-reads
-use Rattle.heap_slots.proofs.read_header.Reads as read-header-reads
-use Rattle.heap_slots.proofs.write_header.Reads as write-header-reads
 
-read-header-requires : tie.Need-read-header-requires
-read-header-requires c κs = search rules
+read_header-h-requires : tie.Need-read_header-h-requires
+read_header-h-requires c κs = search rules
 
-same_length : tie.Need-same-length
-same_length c = search rules
+shape_of-slots-then-h-eq-NONE : tie.Need-shape_of-slots-then-h-eq-NONE
+shape_of-slots-then-h-eq-NONE c = search rules
 
-returns : tie.Need-returns
-returns c = look-vacant _ _ _ _ _ _ _ c.before.before.read-header.ensures c.if1.true
+returns-then-h-eq-NONE : tie.Need-returns-then-h-eq-NONE
+returns-then-h-eq-NONE c = look-vacant _ _ _ _ _ _ _ c.read_header-h.ensures c.if-h-eq-NONE.true
 
-shared-slice-read-if2 : tie.Need-shared-slice-read-if2
-shared-slice-read-if2 c = search rules
+bounds-marks-i : tie.Need-bounds-marks-i
+bounds-marks-i c = search rules
 
-weigh-requires : tie.Need-weigh-requires
-weigh-requires c κs = ((c.before.before.before.before.before.before.before.before.before.before.requires.few, c.before.before.before.before.before.before.before.before.before.before.requires.scalars_fit), (look-weighable _ _ c.before.before.before.before.before.before.before.before.before.before.args.list.now c.before.before.before.before.before.before.before.before.before.before.args.marks.now _ c.before.before.before.before.before.before.before.before.before.before.args.w c.before.before.before.before.before.before.before.before.before.before.args.t c.before.before.before.before.read-header.ensures c.before.before.before.before.before.before.before.before.before.before.requires.weighable, c.before.before.before.before.before.before.before.before.before.before.requires.weights))
+weigh-weight-requires : tie.Need-weigh-weight-requires
+weigh-weight-requires c κs = ((c.requires.few, c.requires.scalars_fit), (look-weighable _ _ c.args.list.now c.args.marks.now _ c.args.w c.args.t c.read_header-h.ensures c.requires.weighable, c.requires.weights))
 
-coroutine-of-requires : tie.Need-coroutine-of-requires
-coroutine-of-requires c κs = search rules
+coroutine_of-coroutine-requires : tie.Need-coroutine_of-coroutine-requires
+coroutine_of-coroutine-requires c κs = search rules
 
-add-t18 : tie.Need-overflow-add-t18
-add-t18 c = omega (arith, c.before.before.before.before.before.before.before.before.before.before.before.before.before.requires.heavy, c.before.before.before.before.before.before.before.before.before.before.before.before.before.requires.few, c.before.before.weigh.ensures, weight_le c.before.before.before.before.before.before.before.before.before.before.before.before.before.requires.weights (look-weighable _ _ c.before.before.before.before.before.before.before.before.before.before.before.before.before.args.list.now c.before.before.before.before.before.before.before.before.before.before.before.before.before.args.marks.now _ c.before.before.before.before.before.before.before.before.before.before.before.before.before.args.w c.before.before.before.before.before.before.before.before.before.before.before.before.before.args.t c.before.before.before.before.before.before.before.read-header.ensures c.before.before.before.before.before.before.before.before.before.before.before.before.before.requires.weighable))
+overflow_add-result : tie.Need-overflow_add-result
+overflow_add-result c = omega (arith, c.requires.heavy, c.requires.few, c.weigh-weight.ensures, weight_le c.requires.weights (look-weighable _ _ c.args.list.now c.args.marks.now _ c.args.w c.args.t c.read_header-h.ensures c.requires.weighable))
 
-add-t19 : tie.Need-overflow-add-t19
-add-t19 c = omega (arith, c.before.before.before.before.before.before.before.before.before.before.before.before.before.before.before.requires.cells, c.before.before.before.before.before.before.before.before.before.before.before.before.before.before.before.requires.few, c.before.before.before.before.before.before.before.before.before.before.before.before.before.before.before.requires.weighable.size, ap (λ (h : Header). h.size) c.before.before.before.before.before.before.before.before.before.read-header.ensures)
+overflow_add-result-then-marks-i-ne0 : tie.Need-overflow_add-result-then-marks-i-ne0
+overflow_add-result-then-marks-i-ne0 c = omega (arith, c.requires.cells, c.requires.few, c.requires.weighable.size, ap (λ (h : Header). h.size) c.read_header-h.ensures)
 
-add-t20 : tie.Need-overflow-add-t20
-add-t20 c = omega (arith, c.before.before.before.before.before.before.before.before.before.before.before.before.before.before.before.before.requires.present, c.before.before.before.before.before.before.before.before.before.before.before.before.before.before.before.before.requires.few)
+overflow_add-result-then-marks-i-ne0-2 : tie.Need-overflow_add-result-then-marks-i-ne0-2
+overflow_add-result-then-marks-i-ne0-2 c = omega (arith, c.requires.present, c.requires.few)
 
-add-t21 : tie.Need-overflow-add-t21
-add-t21 c = omega (arith, c.before.before.before.before.before.before.before.before.before.before.before.before.before.before.before.before.before.requires.coroutines, c.before.before.before.before.before.before.before.before.before.before.before.before.before.before.before.before.before.requires.few, c.before.before.before.before.before.coroutine-of.ensures, coroutine-max c.before.before.before.before.before.before.before.before.before.before.before.read-header.result.kind)
+overflow_add-result-then-marks-i-ne0-3 : tie.Need-overflow_add-result-then-marks-i-ne0-3
+overflow_add-result-then-marks-i-ne0-3 c = omega (arith, c.requires.coroutines, c.requires.few, c.coroutine_of-coroutine.ensures, coroutine-max c.read_header-h.result.kind)
 
-same-length-2 : tie.Need-same-length-2
-same-length-2 c = search rules
+shape_of-slots-then-marks-i-ne0 : tie.Need-shape_of-slots-then-marks-i-ne0
+shape_of-slots-then-marks-i-ne0 c = search rules
 
-returns-2 : tie.Need-returns-2
-returns-2 c = look-stays _ _ _ _ _ _ _ c.before.before.before.before.before.before.before.before.before.before.before.read-header.ensures c.before.before.before.before.before.before.before.before.before.if1.false c.before.before.before.before.before.before.before.if2.true c.before.before.before.before.before.before.weigh.ensures c.before.before.before.before.before.coroutine-of.ensures
+returns-then-marks-i-ne0 : tie.Need-returns-then-marks-i-ne0
+returns-then-marks-i-ne0 c = look-stays _ _ _ _ _ _ _ c.read_header-h.ensures c.if-h-eq-NONE.false c.if-marks-i-ne0.true c.weigh-weight.ensures c.coroutine_of-coroutine.ensures
 
 empty-requires : tie.Need-empty-requires
 empty-requires c κs = search rules
 
-write-header-requires : tie.Need-write-header-requires
-write-header-requires c κs = search rules
+write_header-requires : tie.Need-write_header-requires
+write_header-requires c κs = search rules
 
-add-t26 : tie.Need-overflow-add-t26
-add-t26 c = omega (arith, c.before.before.before.before.before.before.before.before.before.before.before.before.before.before.before.before.before.before.requires.freed, c.before.before.before.before.before.before.before.before.before.before.before.before.before.before.before.before.before.before.requires.few)
+overflow_add-result-then-generation-eq-LAST_GENERATION : tie.Need-overflow_add-result-then-generation-eq-LAST_GENERATION
+overflow_add-result-then-generation-eq-LAST_GENERATION c = omega (arith, c.requires.freed, c.requires.few)
 
-same-length-3 : tie.Need-same-length-3
-same-length-3 c = search rules
+shape_of-slots-then-generation-eq-LAST_GENERATION : tie.Need-shape_of-slots-then-generation-eq-LAST_GENERATION
+shape_of-slots-then-generation-eq-LAST_GENERATION c = search rules
 
-returns-3 : tie.Need-returns-3
-returns-3 c = look-retires _ _ _ _ _ _ _ c.before.before.before.before.before.before.before.before.before.before.before.before.read-header.ensures c.before.before.before.before.before.before.before.before.before.before.if1.false c.before.before.before.before.before.before.before.before.if2.false c.before.before.before.before.before.before.if3.true c.before.before.before.before.empty.ensures c.before.before.before.write-header.ensures
+returns-then-generation-eq-LAST_GENERATION : tie.Need-returns-then-generation-eq-LAST_GENERATION
+returns-then-generation-eq-LAST_GENERATION c = look-retires _ _ _ _ _ _ _ c.read_header-h.ensures c.if-h-eq-NONE.false c.if-marks-i-ne0.false c.if-generation-eq-LAST_GENERATION.true c.empty.ensures c.write_header.ensures
 
-add-empty : tie.Need-overflow-add-empty
-add-empty c = search rules
+overflow_add-generation : tie.Need-overflow_add-generation
+overflow_add-generation c = search rules
 
 empty-requires-2 : tie.Need-empty-requires-2
 empty-requires-2 c κs = search rules
 
-write-header-requires-2 : tie.Need-write-header-requires-2
-write-header-requires-2 c κs = search rules
+write_header-requires-2 : tie.Need-write_header-requires-2
+write_header-requires-2 c κs = search rules
 
-mul-list : tie.Need-overflow-mul-list
-mul-list c = search rules
+offset_bounds-list-top : tie.Need-offset_bounds-list-top
+offset_bounds-list-top c = search rules
 
-slice-write-list : tie.Need-slice-write-list
-slice-write-list c = c.before.before.before.before.before.before.before.before.before.before.before.before.before.before.before.before.before.requires.room (λ e. c.before.before.before.before.before.before.before.before.before.if1.false (ap (λ (h : Header). h.kind) c.before.before.before.before.before.before.before.before.before.before.before.read-header.ensures ∙ e))
+bounds-list-top : tie.Need-bounds-list-top
+bounds-list-top c = c.requires.room (λ e. c.if-h-eq-NONE.false (ap (λ (h : Header). h.kind) c.read_header-h.ensures ∙ e))
 
-add-t31 : tie.Need-overflow-add-t31
-add-t31 c = omega (arith, c.before.before.before.before.before.before.before.before.before.before.before.before.before.before.before.before.before.before.requires.free)
+overflow_add-result-2 : tie.Need-overflow_add-result-2
+overflow_add-result-2 c = omega (arith, c.requires.free)
 
-add-t34 : tie.Need-overflow-add-t34
-add-t34 c = omega (arith, c.before.before.before.before.before.before.before.before.before.before.before.before.before.before.before.before.before.before.before.requires.freed, c.before.before.before.before.before.before.before.before.before.before.before.before.before.before.before.before.before.before.before.requires.few)
+overflow_add-result-3 : tie.Need-overflow_add-result-3
+overflow_add-result-3 c = omega (arith, c.requires.freed, c.requires.few)
 
-same-length-4 : tie.Need-same-length-4
-same-length-4 c = search rules
+shape_of-slots : tie.Need-shape_of-slots
+shape_of-slots c = search rules
 
-same-length-5 : tie.Need-same-length-5
-same-length-5 c = search rules
+shape_of-list : tie.Need-shape_of-list
+shape_of-list c = search rules
 
-returns-4 : tie.Need-returns-4
-returns-4 c = look-returns _ _ _ _ _ _ _ c.before.before.before.before.before.before.before.before.before.before.before.before.before.read-header.ensures c.before.before.before.before.before.before.before.before.before.before.before.if1.false c.before.before.before.before.before.before.before.before.before.if2.false c.before.before.before.before.before.before.before.if3.false c.before.before.before.before.before.empty2.ensures c.before.before.before.before.write-header2.ensures
+returns : tie.Need-returns
+returns c = look-returns _ _ _ _ _ _ _ c.read_header-h.ensures c.if-h-eq-NONE.false c.if-marks-i-ne0.false c.if-generation-eq-LAST_GENERATION.false c.empty-2.ensures c.write_header-2.ensures
 
 pub sweep_slot_spec : {M : Type 1} → statement M
 sweep_slot_spec =
     tie.close
     (tie.spec
-    read-header-requires
-    same_length
-    returns
-    shared-slice-read-if2
-    weigh-requires
-    coroutine-of-requires
-    add-t18
-    add-t19
-    add-t20
-    add-t21
-    same-length-2
-    returns-2
+    read_header-h-requires
+    shape_of-slots-then-h-eq-NONE
+    returns-then-h-eq-NONE
+    bounds-marks-i
+    weigh-weight-requires
+    coroutine_of-coroutine-requires
+    overflow_add-result
+    overflow_add-result-then-marks-i-ne0
+    overflow_add-result-then-marks-i-ne0-2
+    overflow_add-result-then-marks-i-ne0-3
+    shape_of-slots-then-marks-i-ne0
+    returns-then-marks-i-ne0
     empty-requires
-    write-header-requires
-    add-t26
-    same-length-3
-    returns-3
-    add-empty
+    write_header-requires
+    overflow_add-result-then-generation-eq-LAST_GENERATION
+    shape_of-slots-then-generation-eq-LAST_GENERATION
+    returns-then-generation-eq-LAST_GENERATION
+    overflow_add-generation
     empty-requires-2
-    write-header-requires-2
-    mul-list
-    slice-write-list
-    add-t31
-    add-t34
-    same-length-4
-    same-length-5
-    returns-4)
+    write_header-requires-2
+    offset_bounds-list-top
+    bounds-list-top
+    overflow_add-result-2
+    overflow_add-result-3
+    shape_of-slots
+    shape_of-list
+    returns)

@@ -5,141 +5,138 @@ use Rattle.collector.proofs.Weighing.{weight-string, weight-array, weight-map, w
 use borrow.Author.Rules.{rules}
 use Rattle.collector.proofs.weigh.Statement.{statement}
 use Rattle.collector.proofs.weigh.Tie as tie
-use Rattle.collector.proofs.weigh.Reads as reads
-use Rattle.collector.proofs.weigh.Lts as lts
-use Rattle.heap_slots.proofs.read_coroutine.Reads as read-coroutine-reads
 
 -- src/lib.rt:36:14
-add-result : tie.Need-overflow-add-result
-add-result c = omega (arith, c.before.before.before.before.requires.1.0.string c.before.before.match.keys1, c.before.before.before.before.requires.1.1.slot.1)
+overflow_add-result : tie.Need-overflow_add-result
+overflow_add-result c = omega (arith, c.requires.1.0.string c.in-1.is, c.requires.1.1.slot.1)
 
 -- src/lib.rt:37:23
-mul-result : tie.Need-overflow-mul-result
-mul-result c = search rules
+overflow_mul-result : tie.Need-overflow_mul-result
+overflow_mul-result c = search rules
 
 -- src/lib.rt:37:14
-add-result-2 : tie.Need-overflow-add-result-2
-add-result-2 c = search rules
+overflow_add-result-in-6 : tie.Need-overflow_add-result-in-6
+overflow_add-result-in-6 c = search rules
 
 -- src/lib.rt:38:24
-mul-result-2 : tie.Need-overflow-mul-result-2
-mul-result-2 c = omega (arith, entries_weigh c.before.before.before.before.requires.1.1 c.before.before.before.before.requires.1.0 c.before.before.match.keys3)
+overflow_mul-result-in-7 : tie.Need-overflow_mul-result-in-7
+overflow_mul-result-in-7 c = omega (arith, entries_weigh c.requires.1.1 c.requires.1.0 c.in-7.is)
 
 -- src/lib.rt:38:44
-mul-result-3 : tie.Need-overflow-mul-result-3
-mul-result-3 c = omega (arith, c.before.before.before.before.before.requires.1.0.index c.before.before.before.match.keys3)
+overflow_mul-result-in-7-2 : tie.Need-overflow_mul-result-in-7-2
+overflow_mul-result-in-7-2 c = omega (arith, c.requires.1.0.index c.in-7.is)
 
 -- src/lib.rt:38:24
-add-result-3 : tie.Need-overflow-add-result-3
-add-result-3 c = omega (arith, entries_weigh c.before.before.before.before.before.requires.1.1 c.before.before.before.before.before.requires.1.0 c.before.before.before.match.keys3, c.before.before.before.before.before.requires.1.0.index c.before.before.before.match.keys3)
+overflow_add-result-in-7 : tie.Need-overflow_add-result-in-7
+overflow_add-result-in-7 c = omega (arith, entries_weigh c.requires.1.1 c.requires.1.0 c.in-7.is, c.requires.1.0.index c.in-7.is)
 
 -- src/lib.rt:38:14
-add-result-4 : tie.Need-overflow-add-result-4
-add-result-4 c = omega (arith, entries_weigh c.before.before.before.before.before.before.requires.1.1 c.before.before.before.before.before.before.requires.1.0 c.before.before.before.before.match.keys3, c.before.before.before.before.before.before.requires.1.0.index c.before.before.before.before.match.keys3, c.before.before.before.before.before.before.requires.1.1.slot.1)
+overflow_add-result-in-7-2 : tie.Need-overflow_add-result-in-7-2
+overflow_add-result-in-7-2 c = omega (arith, entries_weigh c.requires.1.1 c.requires.1.0 c.in-7.is, c.requires.1.0.index c.in-7.is, c.requires.1.1.slot.1)
 
 -- src/lib.rt:39:23
-mul-result-4 : tie.Need-overflow-mul-result-4
-mul-result-4 c = omega (arith, c.before.before.before.requires.1.0.fields c.before.match.keys4)
+overflow_mul-result-in-8 : tie.Need-overflow_mul-result-in-8
+overflow_mul-result-in-8 c = omega (arith, c.requires.1.0.fields c.in-8.is)
 
 -- src/lib.rt:39:14
-add-result-5 : tie.Need-overflow-add-result-5
-add-result-5 c = omega (arith, c.before.before.before.before.requires.1.0.fields c.before.before.match.keys4, c.before.before.before.before.requires.1.1.slot.1)
+overflow_add-result-in-8 : tie.Need-overflow_add-result-in-8
+overflow_add-result-in-8 c = omega (arith, c.requires.1.0.fields c.in-8.is, c.requires.1.1.slot.1)
 
 -- src/lib.rt:40:23
-mul-result-5 : tie.Need-overflow-mul-result-5
-mul-result-5 c = omega (arith, c.before.before.before.requires.1.0.captures c.before.match.keys5)
+overflow_mul-result-in-9 : tie.Need-overflow_mul-result-in-9
+overflow_mul-result-in-9 c = omega (arith, c.requires.1.0.captures c.in-9.is)
 
 -- src/lib.rt:40:14
-add-result-6 : tie.Need-overflow-add-result-6
-add-result-6 c = omega (arith, c.before.before.before.before.requires.1.0.captures c.before.before.match.keys5, c.before.before.before.before.requires.1.1.slot.1)
+overflow_add-result-in-9 : tie.Need-overflow_add-result-in-9
+overflow_add-result-in-9 c = omega (arith, c.requires.1.0.captures c.in-9.is, c.requires.1.1.slot.1)
 
 -- src/lib.rt:41:15
-add-result-7 : tie.Need-overflow-add-result-7
-add-result-7 c = search rules
+overflow_add-result-in-10 : tie.Need-overflow_add-result-in-10
+overflow_add-result-in-10 c = search rules
 
 -- src/lib.rt:43:17
-read-coroutine-requires : tie.Need-read-coroutine-requires
-read-coroutine-requires c κs = search rules
+read_coroutine-x-requires : tie.Need-read_coroutine-x-requires
+read_coroutine-x-requires c κs = search rules
 
 -- src/lib.rt:44:37
-mul-result-6 : tie.Need-overflow-mul-result-6
-mul-result-6 c = omega (arith, c.before.before.before.before.requires.1.0.registers c.before.before.match.keys7)
+overflow_mul-result-in-11 : tie.Need-overflow_mul-result-in-11
+overflow_mul-result-in-11 c = omega (arith, c.requires.1.0.registers c.in-11.is)
 
 -- src/lib.rt:44:23
-add-result-8 : tie.Need-overflow-add-result-8
-add-result-8 c = omega (arith, c.before.before.before.before.before.requires.1.0.registers c.before.before.before.match.keys7, c.before.before.before.before.before.requires.1.1.coroutine.1)
+overflow_add-result-in-11 : tie.Need-overflow_add-result-in-11
+overflow_add-result-in-11 c = omega (arith, c.requires.1.0.registers c.in-11.is, c.requires.1.1.coroutine.1)
 
 -- src/lib.rt:44:49
-mul-result-7 : tie.Need-overflow-mul-result-7
-mul-result-7 c = omega (arith, frames_weigh c.before.before.before.before.before.before.before.requires.1.1 c.before.before.before.before.before.before.before.requires.1.0 (ap (λ (y : CoroutineScalars). y.frames) c.before.before.before.before.read-coroutine.ensures) c.before.before.before.before.before.match.keys7)
+overflow_mul-result-in-11-2 : tie.Need-overflow_mul-result-in-11-2
+overflow_mul-result-in-11-2 c = omega (arith, frames_weigh c.requires.1.1 c.requires.1.0 (ap (λ (y : CoroutineScalars). y.frames) c.read_coroutine-x.ensures) c.in-11.is)
 
 -- src/lib.rt:44:23
-add-result-9 : tie.Need-overflow-add-result-9
-add-result-9 c = omega (arith, frames_weigh c.before.before.before.before.before.before.before.requires.1.1 c.before.before.before.before.before.before.before.requires.1.0 (ap (λ (y : CoroutineScalars). y.frames) c.before.before.before.before.read-coroutine.ensures) c.before.before.before.before.before.match.keys7, c.before.before.before.before.before.before.before.requires.1.0.registers c.before.before.before.before.before.match.keys7, c.before.before.before.before.before.before.before.requires.1.1.coroutine.1)
+overflow_add-result-in-11-2 : tie.Need-overflow_add-result-in-11-2
+overflow_add-result-in-11-2 c = omega (arith, frames_weigh c.requires.1.1 c.requires.1.0 (ap (λ (y : CoroutineScalars). y.frames) c.read_coroutine-x.ensures) c.in-11.is, c.requires.1.0.registers c.in-11.is, c.requires.1.1.coroutine.1)
 
 -- src/lib.rt:44:13
-add-result-10 : tie.Need-overflow-add-result-10
-add-result-10 c = omega (arith, frames_weigh c.before.before.before.before.before.before.before.before.requires.1.1 c.before.before.before.before.before.before.before.before.requires.1.0 (ap (λ (y : CoroutineScalars). y.frames) c.before.before.before.before.before.read-coroutine.ensures) c.before.before.before.before.before.before.match.keys7, c.before.before.before.before.before.before.before.before.requires.1.0.registers c.before.before.before.before.before.before.match.keys7, c.before.before.before.before.before.before.before.before.requires.1.1.coroutine.1, c.before.before.before.before.before.before.before.before.requires.1.1.slot.1)
+overflow_add-result-in-11-3 : tie.Need-overflow_add-result-in-11-3
+overflow_add-result-in-11-3 c = omega (arith, frames_weigh c.requires.1.1 c.requires.1.0 (ap (λ (y : CoroutineScalars). y.frames) c.read_coroutine-x.ensures) c.in-11.is, c.requires.1.0.registers c.in-11.is, c.requires.1.1.coroutine.1, c.requires.1.1.slot.1)
 
 -- src/lib.rt:28:1
-returns : tie.Need-returns
-returns c = weight-string _ _ _ c.before.before.match.keys1
+returns-in-1 : tie.Need-returns-in-1
+returns-in-1 c = weight-string _ _ _ c.in-1.is
 
 -- src/lib.rt:28:1
-returns-2 : tie.Need-returns-2
-returns-2 c = weight-array _ _ _ c.before.before.match.keys2
+returns-in-6 : tie.Need-returns-in-6
+returns-in-6 c = weight-array _ _ _ c.in-6.is
 
 -- src/lib.rt:28:1
-returns-3 : tie.Need-returns-3
-returns-3 c = weight-map _ _ _ c.before.before.before.before.match.keys3
+returns-in-7 : tie.Need-returns-in-7
+returns-in-7 c = weight-map _ _ _ c.in-7.is
 
 -- src/lib.rt:28:1
-returns-4 : tie.Need-returns-4
-returns-4 c = weight-struct _ _ _ c.before.before.match.keys4
+returns-in-8 : tie.Need-returns-in-8
+returns-in-8 c = weight-struct _ _ _ c.in-8.is
 
 -- src/lib.rt:28:1
-returns-5 : tie.Need-returns-5
-returns-5 c = weight-function _ _ _ c.before.before.match.keys5
+returns-in-9 : tie.Need-returns-in-9
+returns-in-9 c = weight-function _ _ _ c.in-9.is
 
 -- src/lib.rt:28:1
-returns-6 : tie.Need-returns-6
-returns-6 c = weight-iterator _ _ _ c.before.match.keys6
+returns-in-10 : tie.Need-returns-in-10
+returns-in-10 c = weight-iterator _ _ _ c.in-10.is
 
 -- src/lib.rt:28:1
-returns-7 : tie.Need-returns-7
-returns-7 c = weight-coroutine _ _ _ (ap (λ (y : CoroutineScalars). y.frames) c.before.before.before.before.before.read-coroutine.ensures) c.before.before.before.before.before.before.match.keys7
+returns-in-11 : tie.Need-returns-in-11
+returns-in-11 c = weight-coroutine _ _ _ (ap (λ (y : CoroutineScalars). y.frames) c.read_coroutine-x.ensures) c.in-11.is
 
 -- src/lib.rt:28:1
-returns-8 : tie.Need-returns-8
-returns-8 c = weight-none _ _ _ c.match.rest.0.0.0.0.0.0.1 c.match.rest.0.0.0.0.0.1 c.match.rest.0.0.0.0.1 c.match.rest.0.0.0.1 c.match.rest.0.0.1 c.match.rest.0.1 c.match.rest.1
+returns-in_default : tie.Need-returns-in_default
+returns-in_default c = weight-none _ _ _ c.in_default.in_default-own.rest.0.0.0.0.0.0.1 c.in_default.in_default-own.rest.0.0.0.0.0.1 c.in_default.in_default-own.rest.0.0.0.0.1 c.in_default.in_default-own.rest.0.0.0.1 c.in_default.in_default-own.rest.0.0.1 c.in_default.in_default-own.rest.0.1 c.in_default.in_default-own.rest.1
 
 pub weigh_spec : {M : Type 1} → statement M
 weigh_spec =
     tie.close
     (tie.spec
-    add-result
-    mul-result
-    add-result-2
-    mul-result-2
-    mul-result-3
-    add-result-3
-    add-result-4
-    mul-result-4
-    add-result-5
-    mul-result-5
-    add-result-6
-    add-result-7
-    read-coroutine-requires
-    mul-result-6
-    add-result-8
-    mul-result-7
-    add-result-9
-    add-result-10
-    returns
-    returns-2
-    returns-3
-    returns-4
-    returns-5
-    returns-6
-    returns-7
-    returns-8)
+    overflow_add-result
+    overflow_mul-result
+    overflow_add-result-in-6
+    overflow_mul-result-in-7
+    overflow_mul-result-in-7-2
+    overflow_add-result-in-7
+    overflow_add-result-in-7-2
+    overflow_mul-result-in-8
+    overflow_add-result-in-8
+    overflow_mul-result-in-9
+    overflow_add-result-in-9
+    overflow_add-result-in-10
+    read_coroutine-x-requires
+    overflow_mul-result-in-11
+    overflow_add-result-in-11
+    overflow_mul-result-in-11-2
+    overflow_add-result-in-11-2
+    overflow_add-result-in-11-3
+    returns-in-1
+    returns-in-6
+    returns-in-7
+    returns-in-8
+    returns-in-9
+    returns-in-10
+    returns-in-11
+    returns-in_default)

@@ -1,6 +1,6 @@
 use borrow.Author.Rules.{rules}
 use native.Mathlib.Omega.{arith}
-use Prim.Native.Nat.{ℕ, ◌-◌, ◌≤◌}
+use Prim.Native.Nat.{◌-◌, ◌≤◌}
 use lib.ListN.{length, drop}
 use Rattle.layout.specs.Sections.{captures_from}
 use Rattle.model.specs.Content.{traced_by_type}
@@ -9,80 +9,76 @@ use Rattle.collector_marking.proofs.Doing.{Doing, doing_start, doing_step, doing
 use Rattle.collector_marking.proofs.Traced.{capture-front, capture-short, capture-end, listed_more, listed-end}
 use Rattle.collector_marking.proofs.mark_captures.Statement.{statement}
 use Rattle.collector_marking.proofs.mark_captures.Tie as tie
-use Rattle.collector_marking.proofs.mark_captures.Reads as reads
-use Rattle.collector_marking.proofs.mark_captures.Lts as lts
-use Rattle.layout.proofs.next_capture.Reads as next-capture-reads
-use Rattle.collector_marking.proofs.mark_typed.Reads as mark-typed-reads
 
-abbrev invariant_loop : tie.invariant_loop
+abbrev invariant_loop : tie.invariant-loop-ty
 invariant_loop captures layout at slots fresh marks₀ order₀ marked k₀ from₀ j₀ marks order k from j = (j ≤ length captures) × Doing (hit slots fresh) (traced_by_type (captures_from layout at) captures) marks₀ order₀ marked (traced_by_type (captures_from layout from) (drop j captures)) marks order k
 
-abbrev decreases_loop : tie.decreases_loop
+abbrev decreases_loop : tie.decreases-loop-ty
 decreases_loop captures layout at slots fresh marks₀ order₀ marked k₀ from₀ j₀ marks order k from j = length layout - from
 
 -- src/lib.rt:175:5
-loop-holds : tie.Need-loop-init invariant_loop decreases_loop
-loop-holds c = (omega arith, doing_start c.before.before.before.before.before.requires.count)
+loop-ty-init : tie.Need-loop-ty-init invariant_loop decreases_loop
+loop-ty-init c = (omega arith, doing_start c.requires.count)
 
 -- src/lib.rt:176:40
-next-capture-requires : tie.Need-next-capture-requires invariant_loop decreases_loop
-next-capture-requires c κs = search rules
+next_capture-requires : tie.Need-next_capture-requires invariant_loop decreases_loop
+next_capture-requires c κs = search rules
 
 -- src/lib.rt:176:28
-enum-known-ty : tie.Need-enum-known-ty invariant_loop decreases_loop
-enum-known-ty c = search rules
+enum_known-ty : tie.Need-enum_known-ty invariant_loop decreases_loop
+enum_known-ty c = search rules
 
 -- src/lib.rt:177:13
-enum_told : tie.Need-enum-told invariant_loop decreases_loop
-enum_told c = search rules
+enum_told-1 : tie.Need-enum_told-1 invariant_loop decreases_loop
+enum_told-1 c = search rules
 
 -- src/lib.rt:177:13
-same_length : tie.Need-same-length invariant_loop decreases_loop
-same_length c = omega (arith, c.before.before.before.loop.invariant.1.marks_length)
+shape_of-marks-in_default : tie.Need-shape_of-marks-in_default invariant_loop decreases_loop
+shape_of-marks-in_default c = omega (arith, c.loop-ty.invariant.1.marks_length)
 
 -- src/lib.rt:177:13
-same-length-2 : tie.Need-same-length-2 invariant_loop decreases_loop
-same-length-2 c = omega (arith, c.before.before.before.loop.invariant.1.order_length)
+shape_of-order-in_default : tie.Need-shape_of-order-in_default invariant_loop decreases_loop
+shape_of-order-in_default c = omega (arith, c.loop-ty.invariant.1.order_length)
 
 -- src/lib.rt:177:13
-returns : tie.Need-returns invariant_loop decreases_loop
-returns c = doing_end c.before.before.before.loop.invariant.1 (capture-end c.before.before.before.before.before.before.before.before.before.args.captures.now c.before.before.before.loop.j (listed-end _ _ _ c.before.before.next-capture.ensures c.enum_told.given.1))
+returns-in_default : tie.Need-returns-in_default invariant_loop decreases_loop
+returns-in_default c = doing_end c.loop-ty.invariant.1 (capture-end c.args.captures.now c.loop-ty.j (listed-end _ _ _ c.next_capture.ensures c.in_default.is))
 
 -- src/lib.rt:180:13
-same-length-3 : tie.Need-same-length-3 invariant_loop decreases_loop
-same-length-3 c = omega (arith, c.before.before.before.before.before.loop.invariant.1.marks_length)
+shape_of-marks-then-captures-j : tie.Need-shape_of-marks-then-captures-j invariant_loop decreases_loop
+shape_of-marks-then-captures-j c = omega (arith, c.loop-ty.invariant.1.marks_length)
 
 -- src/lib.rt:180:13
-same-length-4 : tie.Need-same-length-4 invariant_loop decreases_loop
-same-length-4 c = omega (arith, c.before.before.before.before.before.loop.invariant.1.order_length)
+shape_of-order-then-captures-j : tie.Need-shape_of-order-then-captures-j invariant_loop decreases_loop
+shape_of-order-then-captures-j c = omega (arith, c.loop-ty.invariant.1.order_length)
 
 -- src/lib.rt:180:13
-returns-2 : tie.Need-returns-2 invariant_loop decreases_loop
-returns-2 c = doing_end c.before.before.before.before.before.loop.invariant.1 (capture-short _ _ _ c.if1.true)
+returns-then-captures-j : tie.Need-returns-then-captures-j invariant_loop decreases_loop
+returns-then-captures-j c = doing_end c.loop-ty.invariant.1 (capture-short _ _ _ c.if-captures-j.true)
 
 -- src/lib.rt:182:28
-mul-mark-typed : tie.Need-overflow-mul-mark-typed invariant_loop decreases_loop
-mul-mark-typed c = omega arith
+offset_bounds-captures-j : tie.Need-offset_bounds-captures-j invariant_loop decreases_loop
+offset_bounds-captures-j c = omega arith
 
 -- src/lib.rt:182:28
-shared-slice-read-mark-typed : tie.Need-shared-slice-read-mark-typed invariant_loop decreases_loop
-shared-slice-read-mark-typed c = omega arith
+bounds-captures-j : tie.Need-bounds-captures-j invariant_loop decreases_loop
+bounds-captures-j c = omega arith
 
 -- src/lib.rt:182:9
-mark-typed-requires : tie.Need-mark-typed-requires invariant_loop decreases_loop
-mark-typed-requires c κs = doing_ready c.before.before.before.before.before.before.before.before.before.before.before.before.before.before.requires c.before.before.before.before.before.before.before.before.loop.invariant.1
+mark_typed-k-requires : tie.Need-mark_typed-k-requires invariant_loop decreases_loop
+mark_typed-k-requires c κs = doing_ready c.requires c.loop-ty.invariant.1
 
 -- src/lib.rt:184:9
-add-j : tie.Need-overflow-add-j invariant_loop decreases_loop
-add-j c = omega (arith, c.before.before.before.before.before.before.before.before.if1.false)
+overflow_add-j : tie.Need-overflow_add-j invariant_loop decreases_loop
+overflow_add-j c = omega (arith, c.if-captures-j.false)
 
 -- src/lib.rt:175:5
-loop-less : tie.Need-loop-smaller invariant_loop decreases_loop
-loop-less c = let q = listed_more _ _ _ c.before.before.before.before.before.before.before.before.before.before.before.before.next-capture.ensures c.before.before.before.before.before.before.before.before.before.before.ty.given.1 in omega (arith, q.onward, q.within)
+loop-ty-smaller : tie.Need-loop-ty-smaller invariant_loop decreases_loop
+loop-ty-smaller c = let q = listed_more _ _ _ c.next_capture.ensures c.in-Number.is in omega (arith, q.onward, q.within)
 
 -- src/lib.rt:175:5
-loop-again : tie.Need-loop-preserved invariant_loop decreases_loop
-loop-again c = (omega (arith, c.before.before.before.before.before.before.before.before.if1.false), doing_step c.before.before.before.before.before.before.before.before.before.before.before.before.before.loop.invariant.1 (capture-front _ _ _ c.before.before.before.before.before.before.before.before.if1.false (listed_more _ _ _ c.before.before.before.before.before.before.before.before.before.before.before.before.next-capture.ensures c.before.before.before.before.before.before.before.before.before.before.ty.given.1).lists) c.before.before.before.before.mark-typed.ensures)
+loop-ty-preserved : tie.Need-loop-ty-preserved invariant_loop decreases_loop
+loop-ty-preserved c = (omega (arith, c.if-captures-j.false), doing_step c.loop-ty.invariant.1 (capture-front _ _ _ c.if-captures-j.false (listed_more _ _ _ c.next_capture.ensures c.in-Number.is).lists) c.mark_typed-k.ensures)
 
 pub mark_captures_spec : {M : Type 1} → statement M
 mark_captures_spec =
@@ -90,19 +86,19 @@ mark_captures_spec =
     (tie.spec
     invariant_loop
     decreases_loop
-    loop-holds
-    next-capture-requires
-    enum-known-ty
-    enum_told
-    same_length
-    same-length-2
-    returns
-    same-length-3
-    same-length-4
-    returns-2
-    mul-mark-typed
-    shared-slice-read-mark-typed
-    mark-typed-requires
-    add-j
-    loop-less
-    loop-again)
+    loop-ty-init
+    next_capture-requires
+    enum_known-ty
+    enum_told-1
+    shape_of-marks-in_default
+    shape_of-order-in_default
+    returns-in_default
+    shape_of-marks-then-captures-j
+    shape_of-order-then-captures-j
+    returns-then-captures-j
+    offset_bounds-captures-j
+    bounds-captures-j
+    mark_typed-k-requires
+    overflow_add-j
+    loop-ty-smaller
+    loop-ty-preserved)

@@ -1,6 +1,6 @@
 use borrow.Author.Rules.{rules}
 use native.Mathlib.Omega.{arith}
-use Prim.Native.Nat.{ℕ, ◌-◌}
+use Prim.Native.Nat.{◌-◌}
 use lib.ListN.{length}
 use Rattle.layout.specs.Sections.{fields_from}
 use Rattle.model.specs.Content.{words_at}
@@ -9,56 +9,52 @@ use Rattle.collector_marking.proofs.Doing.{Doing, doing_start, doing_step, doing
 use Rattle.collector_marking.proofs.Traced.{field-front, picked_end, listed_more, listed-end}
 use Rattle.collector_marking.proofs.mark_fields.Statement.{statement}
 use Rattle.collector_marking.proofs.mark_fields.Tie as tie
-use Rattle.collector_marking.proofs.mark_fields.Reads as reads
-use Rattle.collector_marking.proofs.mark_fields.Lts as lts
-use Rattle.layout.proofs.next_field.Reads as next-field-reads
-use Rattle.collector_marking.proofs.mark_at.Reads as mark-at-reads
 
-abbrev invariant_loop : tie.invariant_loop
+abbrev invariant_loop : tie.invariant-loop-n
 invariant_loop fields layout at slots fresh marks₀ order₀ marked k₀ from₀ marks order k from = Doing (hit slots fresh) (words_at (fields_from layout at) fields) marks₀ order₀ marked (words_at (fields_from layout from) fields) marks order k
 
-abbrev decreases_loop : tie.decreases_loop
+abbrev decreases_loop : tie.decreases-loop-n
 decreases_loop fields layout at slots fresh marks₀ order₀ marked k₀ from₀ marks order k from = length layout - from
 
 -- src/lib.rt:142:5
-loop-holds : tie.Need-loop-init invariant_loop decreases_loop
-loop-holds c = doing_start c.before.before.before.before.before.requires.count
+loop-n-init : tie.Need-loop-n-init invariant_loop decreases_loop
+loop-n-init c = doing_start c.requires.count
 
 -- src/lib.rt:143:39
-next-field-requires : tie.Need-next-field-requires invariant_loop decreases_loop
-next-field-requires c κs = search rules
+next_field-requires : tie.Need-next_field-requires invariant_loop decreases_loop
+next_field-requires c κs = search rules
 
 -- src/lib.rt:143:28
-enum-known-n : tie.Need-enum-known-n invariant_loop decreases_loop
-enum-known-n c = search rules
+enum_known-n : tie.Need-enum_known-n invariant_loop decreases_loop
+enum_known-n c = search rules
 
 -- src/lib.rt:144:13
-enum_told : tie.Need-enum-told invariant_loop decreases_loop
-enum_told c = search rules
+enum_told-1 : tie.Need-enum_told-1 invariant_loop decreases_loop
+enum_told-1 c = search rules
 
 -- src/lib.rt:144:13
-same_length : tie.Need-same-length invariant_loop decreases_loop
-same_length c = omega (arith, c.before.before.before.loop.invariant.marks_length)
+shape_of-marks-in_default : tie.Need-shape_of-marks-in_default invariant_loop decreases_loop
+shape_of-marks-in_default c = omega (arith, c.loop-n.invariant.marks_length)
 
 -- src/lib.rt:144:13
-same-length-2 : tie.Need-same-length-2 invariant_loop decreases_loop
-same-length-2 c = omega (arith, c.before.before.before.loop.invariant.order_length)
+shape_of-order-in_default : tie.Need-shape_of-order-in_default invariant_loop decreases_loop
+shape_of-order-in_default c = omega (arith, c.loop-n.invariant.order_length)
 
 -- src/lib.rt:144:13
-returns : tie.Need-returns invariant_loop decreases_loop
-returns c = doing_end c.before.before.before.loop.invariant (picked_end _ (listed-end _ _ _ c.before.before.next_field.ensures c.enum_told.given.1))
+returns-in_default : tie.Need-returns-in_default invariant_loop decreases_loop
+returns-in_default c = doing_end c.loop-n.invariant (picked_end _ (listed-end _ _ _ c.next_field.ensures c.in_default.is))
 
 -- src/lib.rt:146:9
-mark-at-requires : tie.Need-mark-at-requires invariant_loop decreases_loop
-mark-at-requires c κs = doing_ready c.before.before.before.before.before.before.before.before.before.before.before.before.requires c.before.before.before.before.before.before.loop.invariant
+mark_at-k-requires : tie.Need-mark_at-k-requires invariant_loop decreases_loop
+mark_at-k-requires c κs = doing_ready c.requires c.loop-n.invariant
 
 -- src/lib.rt:142:5
-loop-less : tie.Need-loop-smaller invariant_loop decreases_loop
-loop-less c = let q = listed_more _ _ _ c.before.before.before.before.before.before.before.before.before.before.next_field.ensures c.before.before.before.before.before.before.before.before.n.given.1 in omega (arith, q.onward, q.within)
+loop-n-smaller : tie.Need-loop-n-smaller invariant_loop decreases_loop
+loop-n-smaller c = let q = listed_more _ _ _ c.next_field.ensures c.in-Number.is in omega (arith, q.onward, q.within)
 
 -- src/lib.rt:142:5
-loop-again : tie.Need-loop-preserved invariant_loop decreases_loop
-loop-again c = doing_step c.before.before.before.before.before.before.before.before.before.before.before.loop.invariant (field-front _ _ (listed_more _ _ _ c.before.before.before.before.before.before.before.before.before.before.next_field.ensures c.before.before.before.before.before.before.before.before.n.given.1).lists) c.before.before.before.before.mark-at.ensures
+loop-n-preserved : tie.Need-loop-n-preserved invariant_loop decreases_loop
+loop-n-preserved c = doing_step c.loop-n.invariant (field-front _ _ (listed_more _ _ _ c.next_field.ensures c.in-Number.is).lists) c.mark_at-k.ensures
 
 pub mark_fields_spec : {M : Type 1} → statement M
 mark_fields_spec =
@@ -66,13 +62,13 @@ mark_fields_spec =
     (tie.spec
     invariant_loop
     decreases_loop
-    loop-holds
-    next-field-requires
-    enum-known-n
-    enum_told
-    same_length
-    same-length-2
-    returns
-    mark-at-requires
-    loop-less
-    loop-again)
+    loop-n-init
+    next_field-requires
+    enum_known-n
+    enum_told-1
+    shape_of-marks-in_default
+    shape_of-order-in_default
+    returns-in_default
+    mark_at-k-requires
+    loop-n-smaller
+    loop-n-preserved)

@@ -4,88 +4,83 @@ use Rattle.collector_marking.proofs.Traced.{frame-whole}
 use borrow.Author.Rules.{rules}
 use Rattle.collector_marking.proofs.mark_frame.Statement.{statement}
 use Rattle.collector_marking.proofs.mark_frame.Tie as tie
-use Rattle.collector_marking.proofs.mark_frame.Reads as reads
-use Rattle.collector_marking.proofs.mark_frame.Lts as lts
-use Rattle.layout.proofs.function_section.Reads as function-section-reads
-use Rattle.collector_marking.proofs.mark_registers.Reads as mark-registers-reads
-use Rattle.collector_marking.proofs.mark_word.Reads as mark-word-reads
 
 -- src/lib.rt:195:14
-mul_at : tie.Need-overflow-mul-at
-mul_at c = search rules
+overflow_mul-at : tie.Need-overflow_mul-at
+overflow_mul-at c = search rules
 
 -- src/lib.rt:196:30
-add-mark-word : tie.Need-overflow-add-mark-word
-add-mark-word c = search rules
+overflow_add-at : tie.Need-overflow_add-at
+overflow_add-at c = search rules
 
 -- src/lib.rt:196:23
-mul-mark-word : tie.Need-overflow-mul-mark-word
-mul-mark-word c = search rules
+offset_bounds-frames-at : tie.Need-offset_bounds-frames-at
+offset_bounds-frames-at c = search rules
 
 -- src/lib.rt:196:23
-shared-slice-read-mark-word : tie.Need-shared-slice-read-mark-word
-shared-slice-read-mark-word c = search rules
+bounds-frames-at : tie.Need-bounds-frames-at
+bounds-frames-at c = search rules
 
 -- src/lib.rt:196:9
-mark-word-requires : tie.Need-mark-word-requires
-mark-word-requires c κs = search rules
+mark_word-k-requires : tie.Need-mark_word-k-requires
+mark_word-k-requires c κs = search rules
 
 -- src/lib.rt:197:56
-mul-function-section : tie.Need-overflow-mul-function-section
-mul-function-section c = search rules
+offset_bounds-frames-at-2 : tie.Need-offset_bounds-frames-at-2
+offset_bounds-frames-at-2 c = search rules
 
 -- src/lib.rt:197:56
-shared-slice-read-function-section : tie.Need-shared-slice-read-function-section
-shared-slice-read-function-section c = search rules
+bounds-frames-at-2 : tie.Need-bounds-frames-at-2
+bounds-frames-at-2 c = search rules
 
 -- src/lib.rt:197:9
-function-section-requires : tie.Need-function-section-requires
-function-section-requires c κs = search rules
+function_section-from-requires : tie.Need-function_section-from-requires
+function_section-from-requires c κs = search rules
 
 -- src/lib.rt:198:38
-add-mark-registers : tie.Need-overflow-add-mark-registers
-add-mark-registers c = search rules
+overflow_add-at-2 : tie.Need-overflow_add-at-2
+overflow_add-at-2 c = search rules
 
 -- src/lib.rt:198:31
-mul-mark-registers : tie.Need-overflow-mul-mark-registers
-mul-mark-registers c = search rules
+offset_bounds-frames-at-3 : tie.Need-offset_bounds-frames-at-3
+offset_bounds-frames-at-3 c = search rules
 
 -- src/lib.rt:198:31
-shared-slice-read-mark-registers : tie.Need-shared-slice-read-mark-registers
-shared-slice-read-mark-registers c = search rules
+bounds-frames-at-3 : tie.Need-bounds-frames-at-3
+bounds-frames-at-3 c = search rules
 
 -- src/lib.rt:198:5
-mark-registers-requires : tie.Need-mark-registers-requires
-mark-registers-requires c κs = marks-ready c.before.before.before.before.before.before.before.before.before.before.before.before.before.before.before.before.before.before.before.before.requires.1.1 c.before.before.before.before.before.before.before.before.before.mark-word.ensures
+mark_registers-requires : tie.Need-mark_registers-requires
+mark_registers-requires c κs = marks-ready c.requires.1.1 c.mark_word-k.ensures
 
 -- src/lib.rt:189:1
-same_length : tie.Need-same-length
-same_length c = search rules
+shape_of-marks : tie.Need-shape_of-marks
+shape_of-marks c = search rules
 
 -- src/lib.rt:189:1
-same-length-2 : tie.Need-same-length-2
-same-length-2 c = search rules
+shape_of-order : tie.Need-shape_of-order
+shape_of-order c = search rules
 
 -- src/lib.rt:189:1
 returns : tie.Need-returns
-returns c = marks_as (frame-whole (layout_of c.before.before.before.before.before.before.before.before.before.before.before.before.before.before.before.before.before.before.before.before.before.before.before.before.before.args.layout.now) c.before.before.before.before.before.before.before.before.before.before.before.before.before.before.before.before.before.before.before.before.before.before.before.before.before.args.registers.now c.before.before.before.before.before.before.before.before.before.before.before.before.before.before.before.before.before.before.before.before.before.before.before.before.before.args.frames.now c.before.before.before.before.before.before.before.before.before.before.before.before.before.before.before.before.before.before.before.before.before.before.before.before.before.args.j c.before.before.before.before.before.before.before.before.function_section.ensures.registers) (marks_both c.before.before.before.before.before.before.before.before.before.before.before.before.before.before.before.before.before.before.before.before.before.before.before.before.before.requires.1.1.count c.before.before.before.before.before.before.before.before.before.before.before.before.before.before.mark-word.ensures c.before.before.before.before.mark-registers.ensures)
+returns c = marks_as (frame-whole (layout_of c.args.layout.now) c.args.registers.now c.args.frames.now c.args.j c.function_section-from.ensures.registers) (marks_both c.requires.1.1.count c.mark_word-k.ensures c.mark_registers.ensures)
 
 pub mark_frame_spec : {M : Type 1} → statement M
 mark_frame_spec =
     tie.close
     (tie.spec
-    mul_at
-    add-mark-word
-    mul-mark-word
-    shared-slice-read-mark-word
-    mark-word-requires
-    mul-function-section
-    shared-slice-read-function-section
-    function-section-requires
-    add-mark-registers
-    mul-mark-registers
-    shared-slice-read-mark-registers
-    mark-registers-requires
-    same_length
-    same-length-2
+    overflow_mul-at
+    overflow_add-at
+    offset_bounds-frames-at
+    bounds-frames-at
+    mark_word-k-requires
+    offset_bounds-frames-at-2
+    bounds-frames-at-2
+    function_section-from-requires
+    overflow_add-at-2
+    offset_bounds-frames-at-3
+    bounds-frames-at-3
+    mark_registers-requires
+    shape_of-marks
+    shape_of-order
     returns)

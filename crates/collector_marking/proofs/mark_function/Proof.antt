@@ -7,42 +7,38 @@ use Rattle.collector_marking.proofs.Traced.{own-captures, import_captures}
 use borrow.Author.Rules.{rules}
 use Rattle.collector_marking.proofs.mark_function.Statement.{statement}
 use Rattle.collector_marking.proofs.mark_function.Tie as tie
-use Rattle.collector_marking.proofs.mark_function.Reads as reads
-use Rattle.collector_marking.proofs.mark_function.Lts as lts
-use Rattle.layout.proofs.function_section.Reads as function-section-reads
-use Rattle.collector_marking.proofs.mark_captures.Reads as mark-captures-reads
 
 -- src/lib.rt:242:13
-function-section-requires : tie.Need-function-section-requires
-function-section-requires c κs = search rules
+function_section-at-requires : tie.Need-function_section-at-requires
+function_section-at-requires c κs = search rules
 
 -- src/lib.rt:243:9
-mark-captures-requires : tie.Need-mark-captures-requires
-mark-captures-requires c κs = search rules
+mark_captures-requires : tie.Need-mark_captures-requires
+mark_captures-requires c κs = search rules
 
 -- src/lib.rt:243:9
-same_length : tie.Need-same-length
-same_length c = search rules
+shape_of-marks-then-import-eq0 : tie.Need-shape_of-marks-then-import-eq0
+shape_of-marks-then-import-eq0 c = search rules
 
 -- src/lib.rt:243:9
-same-length-2 : tie.Need-same-length-2
-same-length-2 c = search rules
+shape_of-order-then-import-eq0 : tie.Need-shape_of-order-then-import-eq0
+shape_of-order-then-import-eq0 c = search rules
 
 -- src/lib.rt:243:9
-returns : tie.Need-returns
-returns c = marks_as (own-captures c.before.before.before.before.before.before.before.before.before.before.before.before.before.before.before.args.import _ c.before.before.before.before.before.before.before.before.if1.true ∙ ap (λ (ns : List ℕ). traced_by_type ns c.before.before.before.before.before.before.before.before.before.before.before.before.before.before.before.args.captures.now) (sym c.before.before.before.before.before.before.before.function_section.ensures.captures)) c.before.before.before.before.mark-captures.ensures
+returns-then-import-eq0 : tie.Need-returns-then-import-eq0
+returns-then-import-eq0 c = marks_as (own-captures c.args.import _ c.if-import-eq0.true ∙ ap (λ (ns : List ℕ). traced_by_type ns c.args.captures.now) (sym c.function_section-at.ensures.captures)) c.mark_captures.ensures
 
 -- src/lib.rt:236:1
-returns-2 : tie.Need-returns-2
-returns-2 c = marks_as (import_captures c.before.before.before.before.before.before.before.args.import _ c.if1.false) (marks-none c.before.before.before.before.before.before.before.requires.1.count)
+returns : tie.Need-returns
+returns c = marks_as (import_captures c.args.import _ c.if-import-eq0.false) (marks-none c.requires.1.count)
 
 pub mark_function_spec : {M : Type 1} → statement M
 mark_function_spec =
     tie.close
     (tie.spec
-    function-section-requires
-    mark-captures-requires
-    same_length
-    same-length-2
-    returns
-    returns-2)
+    function_section-at-requires
+    mark_captures-requires
+    shape_of-marks-then-import-eq0
+    shape_of-order-then-import-eq0
+    returns-then-import-eq0
+    returns)

@@ -3,30 +3,33 @@ use Rattle.collector_marking.proofs.Traced.{items-traced, items_plain}
 use borrow.Author.Rules.{rules}
 use Rattle.collector_marking.proofs.mark_items.Statement.{statement}
 use Rattle.collector_marking.proofs.mark_items.Tie as tie
-use Rattle.collector_marking.proofs.mark_items.Reads as reads
-use Rattle.collector_marking.proofs.mark_items.Lts as lts
-use Rattle.collector_marking.proofs.mark_words.Reads as mark-words-reads
 
 -- src/lib.rt:221:9
-mark-words-requires : tie.Need-mark-words-requires
-mark-words-requires c κs = search rules
+mark_words-requires : tie.Need-mark_words-requires
+mark_words-requires c κs = search rules
 
 -- src/lib.rt:221:9
-same_length : tie.Need-same-length
-same_length c = search rules
+shape_of-marks-then-ty-ge1 : tie.Need-shape_of-marks-then-ty-ge1
+shape_of-marks-then-ty-ge1 c = search rules
 
 -- src/lib.rt:221:9
-same-length-2 : tie.Need-same-length-2
-same-length-2 c = search rules
+shape_of-order-then-ty-ge1 : tie.Need-shape_of-order-then-ty-ge1
+shape_of-order-then-ty-ge1 c = search rules
 
 -- src/lib.rt:221:9
-returns : tie.Need-returns
-returns c = marks_as (items-traced _ c.before.before.before.before.before.before.before.before.before.before.before.before.args.items.now c.before.before.before.before.before.before.before.if1.true) c.before.before.before.before.mark-words.ensures
+returns-then-ty-ge1 : tie.Need-returns-then-ty-ge1
+returns-then-ty-ge1 c = marks_as (items-traced _ c.args.items.now c.if-ty-ge1.true) c.mark_words.ensures
 
 -- src/lib.rt:216:1
-returns-2 : tie.Need-returns-2
-returns-2 c = marks_as (items_plain _ c.before.before.before.before.before.args.items.now c.if1.false) (marks-none c.before.before.before.before.before.requires.count)
+returns : tie.Need-returns
+returns c = marks_as (items_plain _ c.args.items.now c.if-ty-ge1.false) (marks-none c.requires.count)
 
 pub mark_items_spec : {M : Type 1} → statement M
 mark_items_spec =
-    tie.close (tie.spec mark-words-requires same_length same-length-2 returns returns-2)
+    tie.close
+    (tie.spec
+    mark_words-requires
+    shape_of-marks-then-ty-ge1
+    shape_of-order-then-ty-ge1
+    returns-then-ty-ge1
+    returns)

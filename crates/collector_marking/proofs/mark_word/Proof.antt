@@ -4,81 +4,78 @@ use Rattle.collector_marking.proofs.Doing.{marks-past, marks-held, marks-placed,
 use borrow.Author.Rules.{rules}
 use Rattle.collector_marking.proofs.mark_word.Statement.{statement}
 use Rattle.collector_marking.proofs.mark_word.Tie as tie
-use Rattle.collector_marking.proofs.mark_word.Reads as reads
-use Rattle.collector_marking.proofs.mark_word.Lts as lts
-use Rattle.heap_slots.proofs.read_header.Reads as read-header-reads
 
 -- src/lib.rt:18:9
-returns : tie.Need-returns
-returns c = marks-past (c.before.before.before.before.requires.count) (c.before.before.before.before.requires.len) (hit-outside _ _ _ c.if1.true)
+returns-then-fresh-i : tie.Need-returns-then-fresh-i
+returns-then-fresh-i c = marks-past c.requires.count c.requires.len (hit-outside _ _ _ c.if-fresh-i.true)
 
 -- src/lib.rt:20:9
-read-header-requires : tie.Need-read-header-requires
-read-header-requires c κs = search rules
+read_header-h-requires : tie.Need-read_header-h-requires
+read_header-h-requires c κs = search rules
 
 -- src/lib.rt:22:9
-returns-2 : tie.Need-returns-2
-returns-2 c = marks-past (c.before.before.before.before.before.before.before.requires.count) (c.before.before.before.before.before.before.before.requires.len) (hit_other _ _ _ c.before.before.read-header.ensures c.before.before.before.if1.false c.if2.true)
+returns-then-h-w : tie.Need-returns-then-h-w
+returns-then-h-w c = marks-past c.requires.count c.requires.len (hit_other _ _ _ c.read_header-h.ensures c.if-fresh-i.false c.if-h-w.true)
 
 -- src/lib.rt:25:9
-returns-3 : tie.Need-returns-3
-returns-3 c = marks-past (c.before.before.before.before.before.before.before.before.before.requires.count) (c.before.before.before.before.before.before.before.before.before.requires.len) (hit-empty _ _ _ c.before.before.before.before.read-header.ensures c.before.before.before.before.before.if1.false c.before.before.if2.false c.if3.true)
+returns-then-h-eq-NONE : tie.Need-returns-then-h-eq-NONE
+returns-then-h-eq-NONE c = marks-past c.requires.count c.requires.len (hit-empty _ _ _ c.read_header-h.ensures c.if-fresh-i.false c.if-h-w.false c.if-h-eq-NONE.true)
 
 -- src/lib.rt:27:8
-slice-read-if4 : tie.Need-slice-read-if4
-slice-read-if4 c = search rules
+bounds-marks-i : tie.Need-bounds-marks-i
+bounds-marks-i c = search rules
 
 -- src/lib.rt:28:9
-returns-4 : tie.Need-returns-4
-returns-4 c = marks-held (c.before.before.before.before.before.before.before.before.before.before.before.requires.count) (hit-there _ _ _ c.before.before.before.before.before.before.read-header.ensures c.before.before.before.before.before.before.before.if1.false c.before.before.before.before.if2.false c.before.before.if3.false) (omega (arith, c.before.before.before.before.before.before.before.before.before.before.before.requires.len, c.before.before.before.before.before.before.before.if1.false)) c.if4.true
+returns-then-marks-i-ne0 : tie.Need-returns-then-marks-i-ne0
+returns-then-marks-i-ne0 c = marks-held c.requires.count (hit-there _ _ _ c.read_header-h.ensures c.if-fresh-i.false c.if-h-w.false c.if-h-eq-NONE.false) (omega (arith, c.requires.len, c.if-fresh-i.false)) c.if-marks-i-ne0.true
 
 -- src/lib.rt:30:5
-slice-write-marks : tie.Need-slice-write-marks
-slice-write-marks c = search rules
+bounds-marks-i-2 : tie.Need-bounds-marks-i-2
+bounds-marks-i-2 c = search rules
 
 -- src/lib.rt:31:21
-cast-order : tie.Need-overflow-cast-order
-cast-order c = search rules
+overflow_cast-order : tie.Need-overflow_cast-order
+overflow_cast-order c = search rules
 
 -- src/lib.rt:31:5
-mul-order : tie.Need-overflow-mul-order
-mul-order c = omega (arith, room-left _ (c.before.before.before.before.before.before.before.before.before.before.before.requires.count) (omega (arith, c.before.before.before.before.before.before.before.before.before.before.before.requires.len, c.before.before.before.before.before.before.before.if1.false)) c.if4.false, c.before.before.before.before.before.before.before.before.before.before.before.requires.len, c.before.before.before.before.before.before.before.before.before.before.before.requires.room)
+offset_bounds-order-marked : tie.Need-offset_bounds-order-marked
+offset_bounds-order-marked c = omega (arith, room-left _ c.requires.count (omega (arith, c.requires.len, c.if-fresh-i.false)) c.if-marks-i-ne0.false, c.requires.len, c.requires.room)
 
 -- src/lib.rt:31:5
-slice-write-order : tie.Need-slice-write-order
-slice-write-order c = omega (arith, room-left _ (c.before.before.before.before.before.before.before.before.before.before.before.requires.count) (omega (arith, c.before.before.before.before.before.before.before.before.before.before.before.requires.len, c.before.before.before.before.before.before.before.if1.false)) c.if4.false, c.before.before.before.before.before.before.before.before.before.before.before.requires.len, c.before.before.before.before.before.before.before.before.before.before.before.requires.room)
+bounds-order-marked : tie.Need-bounds-order-marked
+bounds-order-marked c = omega (arith, room-left _ c.requires.count (omega (arith, c.requires.len, c.if-fresh-i.false)) c.if-marks-i-ne0.false, c.requires.len, c.requires.room)
 
 -- src/lib.rt:32:5
-add-result : tie.Need-overflow-add-result
-add-result c = omega (arith, room-left _ (c.before.before.before.before.before.before.before.before.before.before.before.requires.count) (omega (arith, c.before.before.before.before.before.before.before.before.before.before.before.requires.len, c.before.before.before.before.before.before.before.if1.false)) c.if4.false, c.before.before.before.before.before.before.before.before.before.before.before.requires.len, c.before.before.before.before.before.before.before.before.before.before.before.requires.few)
+overflow_add-result : tie.Need-overflow_add-result
+overflow_add-result c = omega (arith, room-left _ c.requires.count (omega (arith, c.requires.len, c.if-fresh-i.false)) c.if-marks-i-ne0.false, c.requires.len, c.requires.few)
 
 -- src/lib.rt:12:1
-same_length : tie.Need-same-length
-same_length c = search rules
+shape_of-marks : tie.Need-shape_of-marks
+shape_of-marks c = search rules
 
 -- src/lib.rt:12:1
-same-length-2 : tie.Need-same-length-2
-same-length-2 c = search rules
+shape_of-order : tie.Need-shape_of-order
+shape_of-order c = search rules
 
 -- src/lib.rt:12:1
-returns-5 : tie.Need-returns-5
-returns-5 c = marks-placed (c.before.before.before.before.before.before.before.before.before.before.before.requires.count) (hit-there _ _ _ c.before.before.before.before.before.before.read-header.ensures c.before.before.before.before.before.before.before.if1.false c.before.before.before.before.if2.false c.before.before.if3.false) (omega (arith, c.before.before.before.before.before.before.before.before.before.before.before.requires.len, c.before.before.before.before.before.before.before.if1.false)) c.if4.false (omega (arith, room-left _ (c.before.before.before.before.before.before.before.before.before.before.before.requires.count) (omega (arith, c.before.before.before.before.before.before.before.before.before.before.before.requires.len, c.before.before.before.before.before.before.before.if1.false)) c.if4.false, c.before.before.before.before.before.before.before.before.before.before.before.requires.len, c.before.before.before.before.before.before.before.before.before.before.before.requires.room))
+returns : tie.Need-returns
+returns c = marks-placed c.requires.count (hit-there _ _ _ c.read_header-h.ensures c.if-fresh-i.false c.if-h-w.false c.if-h-eq-NONE.false) (omega (arith, c.requires.len, c.if-fresh-i.false)) c.if-marks-i-ne0.false (omega (arith, room-left _ c.requires.count (omega (arith, c.requires.len, c.if-fresh-i.false)) c.if-marks-i-ne0.false, c.requires.len, c.requires.room))
 
 pub mark_word_spec : {M : Type 1} → statement M
 mark_word_spec =
     tie.close
     (tie.spec
-    returns
-    read-header-requires
-    returns-2
-    returns-3
-    slice-read-if4
-    returns-4
-    slice-write-marks
-    cast-order
-    mul-order
-    slice-write-order
-    add-result
-    same_length
-    same-length-2
-    returns-5)
+    returns-then-fresh-i
+    read_header-h-requires
+    returns-then-h-w
+    returns-then-h-eq-NONE
+    bounds-marks-i
+    returns-then-marks-i-ne0
+    bounds-marks-i-2
+    overflow_cast-order
+    offset_bounds-order-marked
+    bounds-order-marked
+    overflow_add-result
+    shape_of-marks
+    shape_of-order
+    returns)

@@ -14,20 +14,27 @@ all-cleared m =
     let all : length m ≤ length m = omega arith in
     rw (drop_of_length-le m all) (append-nil (replicate (length m) 0))
 
-clear-marks-requires : tie.Need-clear-marks-requires
-clear-marks-requires c κs = search rules
+clear_marks-requires : tie.Need-clear_marks-requires
+clear_marks-requires c κs = search rules
 
-clear-order-requires : tie.Need-clear-order-requires
-clear-order-requires c κs = search rules
+clear_order-requires : tie.Need-clear_order-requires
+clear_order-requires c κs = search rules
 
-same_length : tie.Need-same-length
-same_length c = search rules
+shape_of-marks : tie.Need-shape_of-marks
+shape_of-marks c = search rules
 
-same-length-2 : tie.Need-same-length-2
-same-length-2 c = search rules
+shape_of-order : tie.Need-shape_of-order
+shape_of-order c = search rules
 
 returns : tie.Need-returns
-returns c = record { marks = c.before.before.before.before.before.before.clear-marks.ensures ∙ all-cleared c.before.before.before.before.before.before.before.before.before.before.args.marks.now; order = c.before.before.clear-order.ensures }
+returns c = record { marks = c.clear_marks.ensures ∙ all-cleared c.args.marks.now; order = c.clear_order.ensures }
 
 pub unmark_spec : {M : Type 1} → statement M
-unmark_spec = tie.close (tie.spec clear-marks-requires clear-order-requires same_length same-length-2 returns)
+unmark_spec =
+    tie.close
+    (tie.spec
+    clear_marks-requires
+    clear_order-requires
+    shape_of-marks
+    shape_of-order
+    returns)

@@ -11,84 +11,84 @@ use Rattle.heap_allocation.proofs.begin.Tie as tie
 refuse-requires : tie.Need-refuse-requires
 refuse-requires c κs = search rules
 
-returns : tie.Need-returns
-returns c = refused-state c.before.before.before.before.before.before.before.before.before.requires c.before.if1.true c.refuse.ensures
+returns-then-k-gt4 : tie.Need-returns-then-k-gt4
+returns-then-k-gt4 c = refused-state c.requires c.if-k-gt4.true c.refuse.ensures
 
-coroutine-bytes-requires : tie.Need-coroutine-bytes-requires
-coroutine-bytes-requires c κs = search rules
+coroutine_bytes-bytes-requires : tie.Need-coroutine_bytes-bytes-requires
+coroutine_bytes-bytes-requires c κs = search rules
 
-coroutine-cells-requires : tie.Need-coroutine-cells-requires
-coroutine-cells-requires c κs = search rules
+coroutine_cells-size-requires : tie.Need-coroutine_cells-size-requires
+coroutine_cells-size-requires c κs = search rules
 
-prepare-requires : tie.Need-prepare-requires
-prepare-requires c κs = search rules
+prepare-p-requires : tie.Need-prepare-p-requires
+prepare-p-requires c κs = search rules
 
-enum-known-done : tie.Need-enum-known-done
-enum-known-done c = search rules
+enum_known-done : tie.Need-enum_known-done
+enum_known-done c = search rules
 
-refuse-requires-2 : tie.Need-refuse-requires-2
-refuse-requires-2 c κs = search rules
+refuse-requires-in-Refused : tie.Need-refuse-requires-in-Refused
+refuse-requires-in-Refused c κs = search rules
 
-enum_told : tie.Need-enum-told
-enum_told c = search rules
+enum_told-1 : tie.Need-enum_told-1
+enum_told-1 c = search rules
 
-add_at : tie.Need-overflow-add-at
-add_at c = let y = ((prepared_exact (length c.before.before.before.before.before.before.before.before.before.before.before.before.before.before.before.before.before.before.before.before.before.before.before.before.before.args.registers.now + 4 * c.before.before.before.before.before.before.before.before.before.before.before.before.before.before.before.before.before.before.before.before.before.before.before.before.before.args.frames) c.before.before.before.before.before.before.before.before.before.before.before.before.before.before.before.before.before.before.before.before.before.before.before.before.before.requires c.before.before.before.before.before.before.before.before.before.before.before.before.before.before.coroutine-cells.ensures c.before.before.before.before.before.before.before.before.before.prepare.ensures).accepted c.enum_told.given.1).placeable in record { fits = omega (arith, y.region, y.good.laid.cells_max) }
+overflow_add-at : tie.Need-overflow_add-at
+overflow_add-at c = let y = ((prepared_exact (length c.args.registers.now + 4 * c.args.frames) c.requires c.coroutine_cells-size.ensures c.prepare-p.ensures).accepted c.in-Accepted.is).placeable in record { fits = omega (arith, y.region, y.good.laid.cells_max) }
 
-place-coroutine-requires : tie.Need-place-coroutine-requires
-place-coroutine-requires c κs = ((c.before.before.before.before.before.before.before.before.before.before.before.before.before.prepare.ensures.accepted c.before.before.before.before.enum_told.given.1).placeable, accepted-size (length c.before.before.before.before.before.before.before.before.before.before.before.before.before.before.before.before.before.before.before.before.before.before.before.before.before.before.before.before.before.args.registers.now + 4 * c.before.before.before.before.before.before.before.before.before.before.before.before.before.before.before.before.before.before.before.before.before.before.before.before.before.before.before.before.before.args.frames) c.before.before.before.before.before.before.before.before.before.before.before.before.before.before.before.before.before.before.coroutine-cells.ensures c.before.before.before.before.before.before.before.before.before.before.before.before.before.prepare.ensures c.before.before.before.before.enum_told.given.1)
+place_coroutine-made-requires : tie.Need-place_coroutine-made-requires
+place_coroutine-made-requires c κs = ((c.prepare-p.ensures.accepted c.in-Accepted.is).placeable, accepted-size (length c.args.registers.now + 4 * c.args.frames) c.coroutine_cells-size.ensures c.prepare-p.ensures c.in-Accepted.is)
 
-same_length : tie.Need-same-length
-same_length c = search rules
+shape_of-slots-in-Refused : tie.Need-shape_of-slots-in-Refused
+shape_of-slots-in-Refused c = search rules
 
-same-length-2 : tie.Need-same-length-2
-same-length-2 c = search rules
+shape_of-scalars-in-Refused : tie.Need-shape_of-scalars-in-Refused
+shape_of-scalars-in-Refused c = search rules
 
-same-length-3 : tie.Need-same-length-3
-same-length-3 c = search rules
+shape_of-directory-in-Refused : tie.Need-shape_of-directory-in-Refused
+shape_of-directory-in-Refused c = search rules
 
-same-length-4 : tie.Need-same-length-4
-same-length-4 c = search rules
+shape_of-cells-in-Refused : tie.Need-shape_of-cells-in-Refused
+shape_of-cells-in-Refused c = search rules
 
-returns-2 : tie.Need-returns-2
-returns-2 c = refused_begun c.before.before.before.before.before.before.before.before.before.before.before.before.before.before.before.before.before.before.before.before.before.before.before.before.before.before.before.requires c.before.before.before.before.before.before.before.before.before.before.before.before.before.before.before.before.before.before.before.if1.false c.before.before.before.before.before.before.before.before.before.before.before.before.before.before.before.before.before.coroutine-bytes.ensures (prepared_exact (length c.before.before.before.before.before.before.before.before.before.before.before.before.before.before.before.before.before.before.before.before.before.before.before.before.before.before.before.args.registers.now + 4 * c.before.before.before.before.before.before.before.before.before.before.before.before.before.before.before.before.before.before.before.before.before.before.before.before.before.before.before.args.frames) c.before.before.before.before.before.before.before.before.before.before.before.before.before.before.before.before.before.before.before.before.before.before.before.before.before.before.before.requires c.before.before.before.before.before.before.before.before.before.before.before.before.before.before.before.before.coroutine-cells.ensures c.before.before.before.before.before.before.before.before.before.before.before.prepare.ensures) c.before.before.done.given.1 c.refuse2.ensures
+returns-in-Refused : tie.Need-returns-in-Refused
+returns-in-Refused c = refused_begun c.requires c.if-k-gt4.false c.coroutine_bytes-bytes.ensures (prepared_exact (length c.args.registers.now + 4 * c.args.frames) c.requires c.coroutine_cells-size.ensures c.prepare-p.ensures) c.in-Refused.is c.refuse-in-Refused.ensures
 
-same-length-5 : tie.Need-same-length-5
-same-length-5 c = c.before.before.before.before.before.before.before.slots2.given ∙ c.before.before.before.before.before.before.before.before.before.before.before.before.before.before.before.before.before.before.before.before.before.slots.given
+shape_of-slots-in-Accepted : tie.Need-shape_of-slots-in-Accepted
+shape_of-slots-in-Accepted c = c.slots-in-Accepted-1.given ∙ c.slots-1.given
 
-same-length-6 : tie.Need-same-length-6
-same-length-6 c = search rules
+shape_of-scalars-in-Accepted : tie.Need-shape_of-scalars-in-Accepted
+shape_of-scalars-in-Accepted c = search rules
 
-same-length-7 : tie.Need-same-length-7
-same-length-7 c = search rules
+shape_of-directory-in-Accepted : tie.Need-shape_of-directory-in-Accepted
+shape_of-directory-in-Accepted c = search rules
 
-same-length-8 : tie.Need-same-length-8
-same-length-8 c = search rules
+shape_of-cells-in-Accepted : tie.Need-shape_of-cells-in-Accepted
+shape_of-cells-in-Accepted c = search rules
 
-returns-3 : tie.Need-returns-3
-returns-3 c = begun c.before.before.before.before.before.before.before.before.before.before.before.before.before.before.before.before.before.before.before.before.before.before.before.before.before.before.before.before.before.before.before.before.before.before.before.before.before.before.requires c.before.before.before.before.before.before.before.before.before.before.before.before.before.before.before.before.before.before.before.before.before.before.before.before.before.before.before.before.before.before.if1.false c.before.before.before.before.before.before.before.before.before.before.before.before.before.before.before.before.before.before.before.before.before.before.before.before.before.before.before.before.coroutine-bytes.ensures ((prepared_exact (length c.before.before.before.before.before.before.before.before.before.before.before.before.before.before.before.before.before.before.before.before.before.before.before.before.before.before.before.before.before.before.before.before.before.before.before.before.before.before.args.registers.now + 4 * c.before.before.before.before.before.before.before.before.before.before.before.before.before.before.before.before.before.before.before.before.before.before.before.before.before.before.before.before.before.before.before.before.before.before.before.before.before.before.args.frames) c.before.before.before.before.before.before.before.before.before.before.before.before.before.before.before.before.before.before.before.before.before.before.before.before.before.before.before.before.before.before.before.before.before.before.before.before.before.before.requires c.before.before.before.before.before.before.before.before.before.before.before.before.before.before.before.before.before.before.before.before.before.before.before.before.before.before.before.coroutine-cells.ensures c.before.before.before.before.before.before.before.before.before.before.before.before.before.before.before.before.before.before.before.before.before.before.prepare.ensures).accepted c.before.before.before.before.before.before.before.before.before.before.before.before.before.enum_told.given.1) (rw (accepted-size (length c.before.before.before.before.before.before.before.before.before.before.before.before.before.before.before.before.before.before.before.before.before.before.before.before.before.before.before.before.before.before.before.before.before.before.before.before.before.before.args.registers.now + 4 * c.before.before.before.before.before.before.before.before.before.before.before.before.before.before.before.before.before.before.before.before.before.before.before.before.before.before.before.before.before.before.before.before.before.before.before.before.before.before.args.frames) c.before.before.before.before.before.before.before.before.before.before.before.before.before.before.before.before.before.before.before.before.before.before.before.before.before.before.before.coroutine-cells.ensures c.before.before.before.before.before.before.before.before.before.before.before.before.before.before.before.before.before.before.before.before.before.before.prepare.ensures c.before.before.before.before.before.before.before.before.before.before.before.before.before.enum_told.given.1) at c.before.before.before.before.before.before.before.before.place-coroutine.ensures) refl refl refl
+returns-in-Accepted : tie.Need-returns-in-Accepted
+returns-in-Accepted c = begun c.requires c.if-k-gt4.false c.coroutine_bytes-bytes.ensures ((prepared_exact (length c.args.registers.now + 4 * c.args.frames) c.requires c.coroutine_cells-size.ensures c.prepare-p.ensures).accepted c.in-Accepted.is) (rw (accepted-size (length c.args.registers.now + 4 * c.args.frames) c.coroutine_cells-size.ensures c.prepare-p.ensures c.in-Accepted.is) at c.place_coroutine-made.ensures) refl refl refl
 
 pub begin_spec : {M : Type 1} → statement M
 begin_spec =
     tie.close
     (tie.spec
     refuse-requires
-    returns
-    coroutine-bytes-requires
-    coroutine-cells-requires
-    prepare-requires
-    enum-known-done
-    refuse-requires-2
-    enum_told
-    add_at
-    place-coroutine-requires
-    same_length
-    same-length-2
-    same-length-3
-    same-length-4
-    returns-2
-    same-length-5
-    same-length-6
-    same-length-7
-    same-length-8
-    returns-3)
+    returns-then-k-gt4
+    coroutine_bytes-bytes-requires
+    coroutine_cells-size-requires
+    prepare-p-requires
+    enum_known-done
+    refuse-requires-in-Refused
+    enum_told-1
+    overflow_add-at
+    place_coroutine-made-requires
+    shape_of-slots-in-Refused
+    shape_of-scalars-in-Refused
+    shape_of-directory-in-Refused
+    shape_of-cells-in-Refused
+    returns-in-Refused
+    shape_of-slots-in-Accepted
+    shape_of-scalars-in-Accepted
+    shape_of-directory-in-Accepted
+    shape_of-cells-in-Accepted
+    returns-in-Accepted)

@@ -4,27 +4,27 @@ use borrow.Author.Rules.{rules}
 use Rattle.heap_allocation.proofs.coroutine_bytes.Statement.{statement}
 use Rattle.heap_allocation.proofs.coroutine_bytes.Tie as tie
 
-saturating-add-requires : tie.Need-saturating-add-requires
-saturating-add-requires c κs = search rules
+saturating_add-base-requires : tie.Need-saturating_add-base-requires
+saturating_add-base-requires c κs = search rules
 
-word-bytes-requires : tie.Need-word-bytes-requires
-word-bytes-requires c κs = search rules
+word_bytes-requires : tie.Need-word_bytes-requires
+word_bytes-requires c κs = search rules
 
-saturating-mul-requires : tie.Need-saturating-mul-requires
-saturating-mul-requires c κs = search rules
+saturating_mul-requires : tie.Need-saturating_mul-requires
+saturating_mul-requires c κs = search rules
 
-saturating-add-requires-2 : tie.Need-saturating-add-requires-2
-saturating-add-requires-2 c κs = search rules
+saturating_add-requires : tie.Need-saturating_add-requires
+saturating_add-requires c κs = search rules
 
 returns : tie.Need-returns
-returns c = bytes-sum c.before.before.before.before.args.weights.slot c.before.before.before.before.args.weights.coroutine c.before.before.before.before.args.registers c.before.before.before.before.args.weights.frame c.before.before.before.before.args.frames c.saturating-add2.ensures c.before.before.word_Bytes.ensures c.before.before.before.saturating-add.ensures c.before.saturating-mul.ensures
+returns c = bytes-sum c.args.weights.slot c.args.weights.coroutine c.args.registers c.args.weights.frame c.args.frames c.saturating_add.ensures c.word_bytes.ensures c.saturating_add-base.ensures c.saturating_mul.ensures
 
 pub coroutine_bytes_spec : {M : Type 1} → statement M
 coroutine_bytes_spec =
     tie.close
     (tie.spec
-    saturating-add-requires
-    word-bytes-requires
-    saturating-mul-requires
-    saturating-add-requires-2
+    saturating_add-base-requires
+    word_bytes-requires
+    saturating_mul-requires
+    saturating_add-requires
     returns)

@@ -4,14 +4,19 @@ use borrow.Author.Rules.{rules}
 use Rattle.heap_allocation.proofs.coroutine_cells.Statement.{statement}
 use Rattle.heap_allocation.proofs.coroutine_cells.Tie as tie
 
-saturating-mul-requires : tie.Need-saturating-mul-requires
-saturating-mul-requires c κs = search rules
+saturating_mul-requires : tie.Need-saturating_mul-requires
+saturating_mul-requires c κs = search rules
 
-saturating-add-requires : tie.Need-saturating-add-requires
-saturating-add-requires c κs = search rules
+saturating_add-requires : tie.Need-saturating_add-requires
+saturating_add-requires c κs = search rules
 
 returns : tie.Need-returns
-returns c = cells-sum c.before.before.args.registers c.before.before.args.frames c.saturating-add.ensures c.before.saturating-mul.ensures
+returns c = cells-sum c.args.registers c.args.frames c.saturating_add.ensures c.saturating_mul.ensures
 
 pub coroutine_cells_spec : {M : Type 1} → statement M
-coroutine_cells_spec = tie.close (tie.spec saturating-mul-requires saturating-add-requires returns)
+coroutine_cells_spec =
+    tie.close
+    (tie.spec
+    saturating_mul-requires
+    saturating_add-requires
+    returns)

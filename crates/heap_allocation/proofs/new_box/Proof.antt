@@ -5,20 +5,26 @@ use borrow.Author.Rules.{rules}
 use Rattle.heap_allocation.proofs.new_box.Statement.{statement}
 use Rattle.heap_allocation.proofs.new_box.Tie as tie
 
-fresh-header-requires : tie.Need-fresh-header-requires
-fresh-header-requires c κs = search rules
+fresh_header-h-requires : tie.Need-fresh_header-h-requires
+fresh_header-h-requires c κs = search rules
 
-new-plain-requires : tie.Need-new-plain-requires
-new-plain-requires c κs =
-    let at-fresh-header : tie.After-fresh-header = search in
+new_plain-requires : tie.Need-new_plain-requires
+new_plain-requires c κs =
+    let at-fresh-header : tie.After-fresh_header-h = search in
     let start : tie.Start = search in
-    (start.pre, four_object 5 _ 0 (omega arith) (omega arith) at-fresh-header.fresh-header.ensures)
+    (start.requires, four_object 5 _ 0 (omega arith) (omega arith) at-fresh-header.fresh_header-h.ensures)
 
-same_length : tie.Need-same-length
-same_length c = search rules
+shape_of-slots : tie.Need-shape_of-slots
+shape_of-slots c = search rules
 
 returns : tie.Need-returns
-returns c = box-made c.before.before.before.before.before.before.before.before.before.before.before.requires c.before.before.before.before.fresh-header.ensures c.before.before.new-plain.ensures
+returns c = box-made c.requires c.fresh_header-h.ensures c.new_plain.ensures
 
 pub new_box_spec : {M : Type 1} → statement M
-new_box_spec = tie.close (tie.spec fresh-header-requires new-plain-requires same_length returns)
+new_box_spec =
+    tie.close
+    (tie.spec
+    fresh_header-h-requires
+    new_plain-requires
+    shape_of-slots
+    returns)

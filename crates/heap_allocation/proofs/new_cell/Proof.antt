@@ -5,24 +5,30 @@ use borrow.Author.Rules.{rules}
 use Rattle.heap_allocation.proofs.new_cell.Statement.{statement}
 use Rattle.heap_allocation.proofs.new_cell.Tie as tie
 
-returns : tie.Need-returns
-returns c = cell-refused c.before.before.before.before.before.before.requires _ _ c.if1.true
+returns-then-t-gt2 : tie.Need-returns-then-t-gt2
+returns-then-t-gt2 c = cell-refused c.requires _ _ c.if-t-gt2.true
 
-fresh-header-requires : tie.Need-fresh-header-requires
-fresh-header-requires c κs = search rules
+fresh_header-h-requires : tie.Need-fresh_header-h-requires
+fresh_header-h-requires c κs = search rules
 
-new-plain-requires : tie.Need-new-plain-requires
-new-plain-requires c κs =
-    let at-fresh-header : tie.After-fresh-header = search in
+new_plain-requires : tie.Need-new_plain-requires
+new_plain-requires c κs =
+    let at-fresh-header : tie.After-fresh_header-h = search in
     let start : tie.Start = search in
-    (start.pre, four_object 3 _ _ (omega arith) (omega arith) at-fresh-header.fresh-header.ensures)
+    (start.requires, four_object 3 _ _ (omega arith) (omega arith) at-fresh-header.fresh_header-h.ensures)
 
-same_length : tie.Need-same-length
-same_length c = search rules
+shape_of-slots : tie.Need-shape_of-slots
+shape_of-slots c = search rules
 
-returns-2 : tie.Need-returns-2
-returns-2 c = cell-made c.before.before.before.before.before.before.before.before.before.before.before.before.requires c.before.before.before.before.before.before.if1.false c.before.before.before.before.fresh-header.ensures c.before.before.new-plain.ensures
+returns : tie.Need-returns
+returns c = cell-made c.requires c.if-t-gt2.false c.fresh_header-h.ensures c.new_plain.ensures
 
 pub new_cell_spec : {M : Type 1} → statement M
 new_cell_spec =
-    tie.close (tie.spec returns fresh-header-requires new-plain-requires same_length returns-2)
+    tie.close
+    (tie.spec
+    returns-then-t-gt2
+    fresh_header-h-requires
+    new_plain-requires
+    shape_of-slots
+    returns)

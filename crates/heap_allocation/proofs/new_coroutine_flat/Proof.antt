@@ -4,51 +4,51 @@ use borrow.Author.Rules.{rules}
 use Rattle.heap_allocation.proofs.new_coroutine_flat.Statement.{statement}
 use Rattle.heap_allocation.proofs.new_coroutine_flat.Tie as tie
 
-begin-requires : tie.Need-begin-requires
-begin-requires c κs = search rules
+begin-b-requires : tie.Need-begin-b-requires
+begin-b-requires c κs = search rules
 
-mul-end : tie.Need-overflow-mul-end
-mul-end c = search rules
+overflow_mul-end : tie.Need-overflow_mul-end
+overflow_mul-end c = search rules
 
-sub-copy-words : tie.Need-overflow-sub-copy-words
-sub-copy-words c = search rules
+slice_bounds-copy_words-count : tie.Need-slice_bounds-copy_words-count
+slice_bounds-copy_words-count c = search rules
 
-part-copy-words-start : tie.Need-slice-bounds-copy-words-start
-part-copy-words-start c = search rules
+slice_bounds-copy_words-start : tie.Need-slice_bounds-copy_words-start
+slice_bounds-copy_words-start c = search rules
 
-part-copy-words-end : tie.Need-slice-bounds-copy-words-end
-part-copy-words-end c = search rules
+slice_bounds-copy_words-end : tie.Need-slice_bounds-copy_words-end
+slice_bounds-copy_words-end c = search rules
 
-copy-words-requires : tie.Need-copy-words-requires
-copy-words-requires c κs = search rules
+copy_words-requires : tie.Need-copy_words-requires
+copy_words-requires c κs = search rules
 
-same_length : tie.Need-same-length
-same_length c = search rules
+shape_of-slots : tie.Need-shape_of-slots
+shape_of-slots c = search rules
 
-same-length-2 : tie.Need-same-length-2
-same-length-2 c = search rules
+shape_of-scalars : tie.Need-shape_of-scalars
+shape_of-scalars c = search rules
 
-same-length-3 : tie.Need-same-length-3
-same-length-3 c = search rules
+shape_of-directory : tie.Need-shape_of-directory
+shape_of-directory c = search rules
 
-same-length-4 : tie.Need-same-length-4
-same-length-4 c = search rules
+shape_of-cells : tie.Need-shape_of-cells
+shape_of-cells c = search rules
 
 returns : tie.Need-returns
-returns c = words-put c.before.before.before.before.before.before.before.before.before.before.before.before.before.before.before.before.before.before.before.before.before.before.before.before.before.before.before.args.frames.now c.before.before.before.before.before.before.before.before.before.before.before.before.before.before.before.begin.ensures c.before.before.before.copy-words.ensures
+returns c = words-put c.args.frames.now c.begin-b.ensures c.copy_words.ensures
 
 pub new_coroutine_flat_spec : {M : Type 1} → statement M
 new_coroutine_flat_spec =
     tie.close
     (tie.spec
-    begin-requires
-    mul-end
-    sub-copy-words
-    part-copy-words-start
-    part-copy-words-end
-    copy-words-requires
-    same_length
-    same-length-2
-    same-length-3
-    same-length-4
+    begin-b-requires
+    overflow_mul-end
+    slice_bounds-copy_words-count
+    slice_bounds-copy_words-start
+    slice_bounds-copy_words-end
+    copy_words-requires
+    shape_of-slots
+    shape_of-scalars
+    shape_of-directory
+    shape_of-cells
     returns)

@@ -1,30 +1,36 @@
 -- `heap_allocation::new_function` meets its contract. Assumes nothing.
 use mathlib.Core.Path.{◌≡◌, sym}
-use mathlib.Core.Logic.{⊎_elim}
 use Rattle.heap.specs.Kinds.{yes}
 use Rattle.heap_allocation.proofs.RegionLaws.{function-made, words-object}
 use native.Mathlib.Omega.{arith}
 use borrow.Author.Rules.{rules}
 use Rattle.heap_allocation.proofs.new_function.Statement.{statement}
+use Rattle.heap_allocation.proofs.new_function.Lts.{then-import, else-import}
 use Rattle.heap_allocation.proofs.new_function.Tie as tie
 
-new-words-requires : tie.Need-new-words-requires
-new-words-requires c κs =
+new_words-requires : tie.Need-new_words-requires
+new_words-requires c κs =
     let start : tie.Start = search in
-    (start.pre, words-object 9 _ _ _ _ (omega arith) (omega arith) (λ z. absurd (omega (arith, z))))
+    (start.requires, words-object 9 _ _ _ _ (omega arith) (omega arith) (λ z. absurd (omega (arith, z))))
 
-same_length : tie.Need-same-length
-same_length c = search rules
+shape_of-slots : tie.Need-shape_of-slots
+shape_of-slots c = search rules
 
-same-length-2 : tie.Need-same-length-2
-same-length-2 c = search rules
+shape_of-directory : tie.Need-shape_of-directory
+shape_of-directory c = search rules
 
-same-length-3 : tie.Need-same-length-3
-same-length-3 c = search rules
+shape_of-cells : tie.Need-shape_of-cells
+shape_of-cells c = search rules
 
 returns : tie.Need-returns
-returns c = let e : yes c.before.before.before.before.before.before.before.before.before.before.if1.mode ≡ c.before.before.before.before.before.before.before.before.before.before.before.before.before.before.before.before.before.args.import = ⊎_elim (λ w. rw w.1 (sym w.0.taken)) (λ w. rw w.1 (sym w.0.left)) c.before.before.before.before.before.before.before.before.before.before.if1.branch in function-made c.before.before.before.before.before.before.before.before.before.before.before.before.before.before.before.before.before.requires e c.before.before.before.before.before.before.new-words.ensures.0
+returns c = let e : yes c.if-import.mode ≡ c.args.import = elim c.if-import.branch [ then-import w ↦ rw w.mode-is (sym w.if-import.true) | else-import w ↦ rw w.mode-is (sym w.if-import.false) ] in function-made c.requires e c.new_words.ensures.0
 
 pub new_function_spec : {M : Type 1} → statement M
 new_function_spec =
-    tie.close (tie.spec new-words-requires same_length same-length-2 same-length-3 returns)
+    tie.close
+    (tie.spec
+    new_words-requires
+    shape_of-slots
+    shape_of-directory
+    shape_of-cells
+    returns)

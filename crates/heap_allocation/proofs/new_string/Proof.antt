@@ -6,80 +6,80 @@ use borrow.Author.Rules.{rules}
 use Rattle.heap_allocation.proofs.new_string.Statement.{statement}
 use Rattle.heap_allocation.proofs.new_string.Tie as tie
 
-saturating-add-requires : tie.Need-saturating-add-requires
-saturating-add-requires c κs = search rules
+saturating_add-weight-requires : tie.Need-saturating_add-weight-requires
+saturating_add-weight-requires c κs = search rules
 
-add-size : tie.Need-overflow-add-size
-add-size c = search rules
+overflow_add-size : tie.Need-overflow_add-size
+overflow_add-size c = search rules
 
-add-size-2 : tie.Need-overflow-add-size-2
-add-size-2 c = search rules
+overflow_add-size-2 : tie.Need-overflow_add-size-2
+overflow_add-size-2 c = search rules
 
-prepare-requires : tie.Need-prepare-requires
-prepare-requires c κs = search rules
+prepare-p-requires : tie.Need-prepare-p-requires
+prepare-p-requires c κs = search rules
 
-enum-known-done : tie.Need-enum-known-done
-enum-known-done c = search rules
+enum_known-done : tie.Need-enum_known-done
+enum_known-done c = search rules
 
-enum_told : tie.Need-enum-told
-enum_told c = search rules
+enum_told-1 : tie.Need-enum_told-1
+enum_told-1 c = search rules
 
-write-string-requires : tie.Need-write-string-requires
-write-string-requires c κs = (rw (string-size _) at (c.before.before.before.before.before.before.before.before.before.before.prepare.ensures.accepted c.before.enum_told.given.1).placeable.region, (c.before.before.before.before.before.before.before.before.before.before.prepare.ensures.accepted c.before.enum_told.given.1).placeable.good.laid.cells_max)
+write_string-requires : tie.Need-write_string-requires
+write_string-requires c κs = (rw (string-size _) at (c.prepare-p.ensures.accepted c.in-Accepted.is).placeable.region, (c.prepare-p.ensures.accepted c.in-Accepted.is).placeable.good.laid.cells_max)
 
-fresh-header-requires : tie.Need-fresh-header-requires
-fresh-header-requires c κs = search rules
+fresh_header-h-requires : tie.Need-fresh_header-h-requires
+fresh_header-h-requires c κs = search rules
 
 finish-requires : tie.Need-finish-requires
 finish-requires c κs =
-    let at-fresh-header : tie.After-fresh-header = search in
-    let at-write : tie.After-write-string = search in
-    let at_told : tie.After-enum-told = search in
-    let at-prepare : tie.After-prepare = search in
-    rw at-fresh-header.fresh-header.ensures (region-ready (at-prepare.prepare.ensures.accepted at_told.enum_told.given.1) (above_written at-write.write-string.ensures) refl (string-object _ (string-size _)))
+    let at-fresh-header : tie.After-fresh_header-h = search in
+    let at-write : tie.After-write_string = search in
+    let at_told : tie.In-Accepted = search in
+    let at-prepare : tie.After-prepare-p = search in
+    rw at-fresh-header.fresh_header-h.ensures (region-ready (at-prepare.prepare-p.ensures.accepted at_told.in-Accepted.is) (above_written at-write.write_string.ensures) refl (string-object _ (string-size _)))
 
-same_length : tie.Need-same-length
-same_length c = search rules
+shape_of-slots-in-Refused : tie.Need-shape_of-slots-in-Refused
+shape_of-slots-in-Refused c = search rules
 
-same-length-2 : tie.Need-same-length-2
-same-length-2 c = search rules
+shape_of-directory-in-Refused : tie.Need-shape_of-directory-in-Refused
+shape_of-directory-in-Refused c = search rules
 
-same-length-3 : tie.Need-same-length-3
-same-length-3 c = search rules
+shape_of-cells-in-Refused : tie.Need-shape_of-cells-in-Refused
+shape_of-cells-in-Refused c = search rules
 
-returns : tie.Need-returns
-returns c = string-refused c.before.before.before.before.before.before.before.before.before.before.before.before.before.before.before.before.before.before.before.before.before.before.requires c.before.before.before.before.before.before.before.before.before.before.before.before.before.before.saturating-add.ensures (string-size _) c.before.before.before.before.before.before.before.before.before.before.prepare.ensures c.before.done.given.1
+returns-in-Refused : tie.Need-returns-in-Refused
+returns-in-Refused c = string-refused c.requires c.saturating_add-weight.ensures (string-size _) c.prepare-p.ensures c.in-Refused.is
 
-same-length-4 : tie.Need-same-length-4
-same-length-4 c = c.before.before.before.slots2.given ∙ c.before.before.before.before.before.before.before.before.before.before.before.before.before.before.before.before.before.before.before.before.before.slots.given
+shape_of-slots-in-Accepted : tie.Need-shape_of-slots-in-Accepted
+shape_of-slots-in-Accepted c = c.slots-in-Accepted-1.given ∙ c.slots-1.given
 
-same-length-5 : tie.Need-same-length-5
-same-length-5 c = c.before.directory2.given ∙ c.before.before.before.before.before.before.before.before.before.before.before.before.before.before.before.before.before.before.before.directory.given
+shape_of-directory-in-Accepted : tie.Need-shape_of-directory-in-Accepted
+shape_of-directory-in-Accepted c = c.directory-in-Accepted-1.given ∙ c.directory-1.given
 
-same-length-6 : tie.Need-same-length-6
-same-length-6 c = c.before.before.before.before.before.before.before.before.before.before.cells2.given ∙ c.before.before.before.before.before.before.before.before.before.before.before.before.before.before.before.before.before.cells.given
+shape_of-cells-in-Accepted : tie.Need-shape_of-cells-in-Accepted
+shape_of-cells-in-Accepted c = c.cells-in-Accepted-1.given ∙ c.cells-1.given
 
-returns-2 : tie.Need-returns-2
-returns-2 c = string-made c.before.before.before.before.before.before.before.before.before.before.before.before.before.before.before.before.before.before.before.before.before.before.before.before.before.before.before.before.before.before.before.before.before.before.requires c.before.before.before.before.before.before.before.before.before.before.before.before.before.before.before.before.before.before.before.before.before.before.before.before.before.before.saturating-add.ensures (string-size _) c.before.before.before.before.before.before.before.before.before.before.before.before.before.before.before.before.before.before.before.before.before.before.prepare.ensures c.before.before.before.before.before.before.before.before.before.before.before.before.before.enum_told.given.1 c.before.before.before.before.before.before.before.before.before.before.before.write-string.ensures c.before.before.before.before.before.before.before.before.fresh-header.ensures c.before.before.before.before.finish.ensures
+returns-in-Accepted : tie.Need-returns-in-Accepted
+returns-in-Accepted c = string-made c.requires c.saturating_add-weight.ensures (string-size _) c.prepare-p.ensures c.in-Accepted.is c.write_string.ensures c.fresh_header-h.ensures c.finish.ensures
 
 pub new_string_spec : {M : Type 1} → statement M
 new_string_spec =
     tie.close
     (tie.spec
-    saturating-add-requires
-    add-size
-    add-size-2
-    prepare-requires
-    enum-known-done
-    enum_told
-    write-string-requires
-    fresh-header-requires
+    saturating_add-weight-requires
+    overflow_add-size
+    overflow_add-size-2
+    prepare-p-requires
+    enum_known-done
+    enum_told-1
+    write_string-requires
+    fresh_header-h-requires
     finish-requires
-    same_length
-    same-length-2
-    same-length-3
-    returns
-    same-length-4
-    same-length-5
-    same-length-6
-    returns-2)
+    shape_of-slots-in-Refused
+    shape_of-directory-in-Refused
+    shape_of-cells-in-Refused
+    returns-in-Refused
+    shape_of-slots-in-Accepted
+    shape_of-directory-in-Accepted
+    shape_of-cells-in-Accepted
+    returns-in-Accepted)

@@ -3,29 +3,36 @@ use borrow.Author.Rules.{rules}
 use Rattle.collections_maps.proofs.changes.insert_entry.Statement.{statement}
 use Rattle.collections_maps.proofs.changes.insert_entry.Tie as tie
 
-insert-entry-change-requires : tie.Need-insert-entry-change-requires
-insert-entry-change-requires c κs = search rules
+insert_entry_change-c-requires : tie.Need-insert_entry_change-c-requires
+insert_entry_change-c-requires c κs = search rules
 
 settle-requires : tie.Need-settle-requires
 settle-requires c κs = search rules
 
-same_length : tie.Need-same-length
-same_length c = search rules
+shape_of-slots : tie.Need-shape_of-slots
+shape_of-slots c = search rules
 
-same-length-2 : tie.Need-same-length-2
-same-length-2 c = search rules
+shape_of-scalars : tie.Need-shape_of-scalars
+shape_of-scalars c = search rules
 
-same-length-3 : tie.Need-same-length-3
-same-length-3 c = search rules
+shape_of-directory : tie.Need-shape_of-directory
+shape_of-directory c = search rules
 
-same-length-4 : tie.Need-same-length-4
-same-length-4 c = search rules
+shape_of-cells : tie.Need-shape_of-cells
+shape_of-cells c = search rules
 
 returns : tie.Need-returns
 returns c =
-    let at-settle : tie.After-settle = search in
-    let at-insert-entry-change : tie.After-insert-entry-change = search in
-    rw (at-settle.settle.ensures.0, at-settle.settle.ensures.1) at-insert-entry-change.insert-entry-change.ensures
+    rw (c.settle.ensures.0, c.settle.ensures.1) c.insert_entry_change-c.ensures
 
 pub insert_entry_spec : {M : Type 1} → statement M
-insert_entry_spec = tie.close (tie.spec insert-entry-change-requires settle-requires same_length same-length-2 same-length-3 same-length-4 returns)
+insert_entry_spec =
+    tie.close
+    (tie.spec
+    insert_entry_change-c-requires
+    settle-requires
+    shape_of-slots
+    shape_of-scalars
+    shape_of-directory
+    shape_of-cells
+    returns)

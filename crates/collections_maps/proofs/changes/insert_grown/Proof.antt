@@ -4,54 +4,45 @@ use borrow.Author.Rules.{rules}
 use Rattle.collections_maps.proofs.changes.insert_grown.Statement.{statement}
 use Rattle.collections_maps.proofs.changes.insert_grown.Tie as tie
 
-longer-requires : tie.Need-longer-requires
-longer-requires c κs = search rules
+longer-top-requires : tie.Need-longer-top-requires
+longer-top-requires c κs = search rules
 
-read-header-requires : tie.Need-read-header-requires
-read-header-requires c κs = search rules
+read_header-h-requires : tie.Need-read_header-h-requires
+read_header-h-requires c κs = search rules
 
-insert-in-requires : tie.Need-insert-in-requires
-insert-in-requires c κs = search grown_inserting
+insert_in-n-requires : tie.Need-insert_in-n-requires
+insert_in-n-requires c κs = search grown_inserting
 
-write-map-requires : tie.Need-write-map-requires
-write-map-requires c κs =
-    let at-longer : tie.After-longer = search in
-    let start : tie.Start = search in
-    grown-fits start.pre.0 start.pre.1.0 at-longer.longer.ensures
+write_map-requires : tie.Need-write_map-requires
+write_map-requires c κs =
+    grown-fits c.requires.0 c.requires.1.0 c.longer-top.ensures
 
-same_length : tie.Need-same-length
-same_length c = search rules
+shape_of-slots : tie.Need-shape_of-slots
+shape_of-slots c = search rules
 
-same-length-2 : tie.Need-same-length-2
-same-length-2 c = search rules
+shape_of-scalars : tie.Need-shape_of-scalars
+shape_of-scalars c = search rules
 
-same-length-3 : tie.Need-same-length-3
-same-length-3 c = search rules
+shape_of-directory : tie.Need-shape_of-directory
+shape_of-directory c = search rules
 
-same-length-4 : tie.Need-same-length-4
-same-length-4 c = search rules
+shape_of-cells : tie.Need-shape_of-cells
+shape_of-cells c = search rules
 
 returns : tie.Need-returns
 returns c =
-    let at-write-map : tie.After-write-map = search in
-    let at-insert-in : tie.After-insert-in = search in
-    let at-read-header : tie.After-read-header = search in
-    let at-directory : tie.After-directory = search in
-    let at-longer : tie.After-longer = search in
-    let at-longer-arg : tie.After-longer-arg = search in
-    let start : tie.Start = search in
-    inserted_so start.args.traced start.args.hash start.args.key start.args.value start.pre.0 start.pre.1.0 at-longer.longer.ensures at-read-header.read-header.ensures at-insert-in.insert-in.ensures at-write-map.write-map.ensures
+    inserted_so c.args.traced c.args.hash c.args.key c.args.value c.requires.0 c.requires.1.0 c.longer-top.ensures c.read_header-h.ensures c.insert_in-n.ensures c.write_map.ensures
 
 pub insert_grown_spec : {M : Type 1} → statement M
 insert_grown_spec =
     tie.close
     (tie.spec
-    longer-requires
-    read-header-requires
-    insert-in-requires
-    write-map-requires
-    same_length
-    same-length-2
-    same-length-3
-    same-length-4
+    longer-top-requires
+    read_header-h-requires
+    insert_in-n-requires
+    write_map-requires
+    shape_of-slots
+    shape_of-scalars
+    shape_of-directory
+    shape_of-cells
     returns)

@@ -8,42 +8,40 @@ use borrow.Author.Rules.{rules}
 use Rattle.collections_maps.proofs.changes.insert_in.Statement.{statement}
 use Rattle.collections_maps.proofs.changes.insert_in.Tie as tie
 
-add-to : tie.Need-overflow-add-to
-add-to c = search rules
+overflow_add-to : tie.Need-overflow_add-to
+overflow_add-to c = search rules
 
-mul-insert : tie.Need-overflow-mul-insert
-mul-insert c = search rules
+offset_bounds-cells-from : tie.Need-offset_bounds-cells-from
+offset_bounds-cells-from c = search rules
 
-sub-insert : tie.Need-overflow-sub-insert
-sub-insert c = search rules
+slice_bounds-insert-count : tie.Need-slice_bounds-insert-count
+slice_bounds-insert-count c = search rules
 
-part-insert-start : tie.Need-slice-bounds-insert-start
-part-insert-start c = search rules
+slice_bounds-insert-start : tie.Need-slice_bounds-insert-start
+slice_bounds-insert-start c = search rules
 
-part-insert-end : tie.Need-slice-bounds-insert-end
-part-insert-end c = search rules
+slice_bounds-insert-end : tie.Need-slice_bounds-insert-end
+slice_bounds-insert-end c = search rules
 
 insert-requires : tie.Need-insert-requires
-insert-requires c κs = rw (region-part c.before.before.args.h c.before.before.args.cells.now) (c.before.before.requires.good, (region-length-fits c.before.before.args.h c.before.before.args.cells.now c.before.before.requires.inside c.before.before.requires.room, c.before.before.requires.number))
+insert-requires c κs = rw (region-part c.args.h c.args.cells.now) (c.requires.good, (region-length-fits c.args.h c.args.cells.now c.requires.inside c.requires.room, c.requires.number))
 
-same_length : tie.Need-same-length
-same_length c = search rules
+shape_of-cells : tie.Need-shape_of-cells
+shape_of-cells c = search rules
 
 returns : tie.Need-returns
 returns c =
-    let at-insert : tie.After-insert = search in
-    let start : tie.Start = search in
-    in_region start.args.h start.args.cells.now (λ (z : List ℕ). room_after start.args.traced start.args.key start.args.s z) at-insert.insert.last.1.0 start.pre.inside at-insert.insert.kept.1.0 at-insert.insert.ensures
+    in_region c.args.h c.args.cells.now (λ (z : List ℕ). room_after c.args.traced c.args.key c.args.s z) c.insert.new.cells c.requires.inside c.insert.auto.cells c.insert.ensures
 
 pub insert_in_spec : {M : Type 1} → statement M
 insert_in_spec =
     tie.close
     (tie.spec
-    add-to
-    mul-insert
-    sub-insert
-    part-insert-start
-    part-insert-end
+    overflow_add-to
+    offset_bounds-cells-from
+    slice_bounds-insert-count
+    slice_bounds-insert-start
+    slice_bounds-insert-end
     insert-requires
-    same_length
+    shape_of-cells
     returns)

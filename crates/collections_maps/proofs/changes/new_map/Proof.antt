@@ -4,51 +4,41 @@ use borrow.Author.Rules.{rules}
 use Rattle.collections_maps.proofs.changes.new_map.Statement.{statement}
 use Rattle.collections_maps.proofs.changes.new_map.Tie as tie
 
+returns-then-keys-gt2 : tie.Need-returns-then-keys-gt2
+returns-then-keys-gt2 c = search keys-refused
+
+returns-then-values-gt2 : tie.Need-returns-then-values-gt2
+returns-then-values-gt2 c = search values_refused
+
+fresh_header-h-requires : tie.Need-fresh_header-h-requires
+fresh_header-h-requires c κs = search rules
+
+scalars_of_map-x-requires : tie.Need-scalars_of_map-x-requires
+scalars_of_map-x-requires c κs = search rules
+
+new_with_scalars-requires : tie.Need-new_with_scalars-requires
+new_with_scalars-requires c κs =
+    (c.requires, empty-object c.args.keys c.args.values c.fresh_header-h.ensures c.scalars_of_map-x.ensures)
+
+shape_of-slots : tie.Need-shape_of-slots
+shape_of-slots c = search rules
+
+shape_of-scalars : tie.Need-shape_of-scalars
+shape_of-scalars c = search rules
+
 returns : tie.Need-returns
-returns c = search keys-refused
-
-returns-2 : tie.Need-returns-2
-returns-2 c = search values_refused
-
-fresh-header-requires : tie.Need-fresh-header-requires
-fresh-header-requires c κs = search rules
-
-scalars-of-map-requires : tie.Need-scalars-of-map-requires
-scalars-of-map-requires c κs = search rules
-
-new-with-scalars-requires : tie.Need-new-with-scalars-requires
-new-with-scalars-requires c κs =
-    let at-scalars-of-map : tie.After-scalars-of-map = search in
-    let at-fresh-header : tie.After-fresh-header = search in
-    let at-else1 : tie.Else1 = search in
-    let start : tie.Start = search in
-    (start.pre, empty-object start.args.keys start.args.values at-fresh-header.fresh-header.ensures at-scalars-of-map.scalars-of-map.ensures)
-
-same_length : tie.Need-same-length
-same_length c = search rules
-
-same-length-2 : tie.Need-same-length-2
-same-length-2 c = search rules
-
-returns-3 : tie.Need-returns-3
-returns-3 c =
-    let at-new-with-scalars : tie.After-new-with-scalars = search in
-    let at-scalars-of-map : tie.After-scalars-of-map = search in
-    let at-fresh-header : tie.After-fresh-header = search in
-    let at-else2 : tie.Else2 = search in
-    let at-else1 : tie.Else1 = search in
-    let start : tie.Start = search in
-    map-made start.pre at-else1.if1.left at-else2.if2.left at-fresh-header.fresh-header.ensures at-scalars-of-map.scalars-of-map.ensures at-new-with-scalars.new-with-scalars.ensures
+returns c =
+    map-made c.requires c.if-keys-gt2.false c.if-values-gt2.false c.fresh_header-h.ensures c.scalars_of_map-x.ensures c.new_with_scalars.ensures
 
 pub new_map_spec : {M : Type 1} → statement M
 new_map_spec =
     tie.close
     (tie.spec
-    returns
-    returns-2
-    fresh-header-requires
-    scalars-of-map-requires
-    new-with-scalars-requires
-    same_length
-    same-length-2
-    returns-3)
+    returns-then-keys-gt2
+    returns-then-values-gt2
+    fresh_header-h-requires
+    scalars_of_map-x-requires
+    new_with_scalars-requires
+    shape_of-slots
+    shape_of-scalars
+    returns)

@@ -6,61 +6,39 @@ use borrow.Author.Rules.{rules}
 use Rattle.collections_maps.proofs.changes.removal_of.Statement.{statement}
 use Rattle.collections_maps.proofs.changes.removal_of.Tie as tie
 
-read-header-requires : tie.Need-read-header-requires
-read-header-requires c κs = search rules
+read_header-h-requires : tie.Need-read_header-h-requires
+read_header-h-requires c κs = search rules
 
-read-map-requires : tie.Need-read-map-requires
-read-map-requires c κs = search rules
+read_map-x-requires : tie.Need-read_map-x-requires
+read_map-x-requires c κs = search rules
 
-map-of-requires : tie.Need-map-of-requires
-map-of-requires c κs = search slot-epoch
+map_of-map-requires : tie.Need-map_of-map-requires
+map_of-map-requires c κs = search slot-epoch
 
 region-requires : tie.Need-region-requires
 region-requires c κs =
-    let at-read-header : tie.After-read-header = search in
-    let start : tie.Start = search in
-    slot-region start.pre.0 start.pre.1 at-read-header.read-header.ensures
+    slot-region c.requires.0 c.requires.1 c.read_header-h.ensures
 
-cells-after-remove-requires : tie.Need-cells-after-remove-requires
-cells-after-remove-requires c κs =
-    let at-region : tie.After-region = search in
-    let at-map-of : tie.After-map-of = search in
-    let at-read-map : tie.After-read-map = search in
-    let at-read-header : tie.After-read-header = search in
-    let at-shared-slice-known3 : tie.After-shared-slice-known3 = search in
-    let start : tie.Start = search in
-    map-good (map-slot start.pre.0 start.pre.1 at-read-header.read-header.ensures at-read-map.read-map.ensures at-map-of.map_of.ensures at-region.region.ensures)
+cells_after_remove-size-requires : tie.Need-cells_after_remove-size-requires
+cells_after_remove-size-requires c κs =
+    map-good (map-slot c.requires.0 c.requires.1 c.read_header-h.ensures c.read_map-x.ensures c.map_of-map.ensures c.region.ensures)
 
-sub-t14 : tie.Need-overflow-sub-t14
-sub-t14 c =
-    let at-cells-after-remove : tie.After-cells-after-remove = search in
-    let at-region : tie.After-region = search in
-    let at-map-of : tie.After-map-of = search in
-    let at-read-map : tie.After-read-map = search in
-    let at-read-header : tie.After-read-header = search in
-    let at-shared-slice-known3 : tie.After-shared-slice-known3 = search in
-    let start : tie.Start = search in
-    remove_longer (map-slot start.pre.0 start.pre.1 at-read-header.read-header.ensures at-read-map.read-map.ensures at-map-of.map_of.ensures at-region.region.ensures) at-cells-after-remove.cells-after-remove.ensures
+overflow_sub-result : tie.Need-overflow_sub-result
+overflow_sub-result c =
+    remove_longer (map-slot c.requires.0 c.requires.1 c.read_header-h.ensures c.read_map-x.ensures c.map_of-map.ensures c.region.ensures) c.cells_after_remove-size.ensures
 
 returns : tie.Need-returns
 returns c =
-    let at-cells-after-remove : tie.After-cells-after-remove = search in
-    let at-region : tie.After-region = search in
-    let at-map-of : tie.After-map-of = search in
-    let at-read-map : tie.After-read-map = search in
-    let at-read-header : tie.After-read-header = search in
-    let at-shared-slice-known3 : tie.After-shared-slice-known3 = search in
-    let start : tie.Start = search in
-    remove-asked (map-slot start.pre.0 start.pre.1 at-read-header.read-header.ensures at-read-map.read-map.ensures at-map-of.map_of.ensures at-region.region.ensures) refl at-cells-after-remove.cells-after-remove.ensures refl
+    remove-asked (map-slot c.requires.0 c.requires.1 c.read_header-h.ensures c.read_map-x.ensures c.map_of-map.ensures c.region.ensures) refl c.cells_after_remove-size.ensures refl
 
 pub removal_of_spec : {M : Type 1} → statement M
 removal_of_spec =
     tie.close
     (tie.spec
-    read-header-requires
-    read-map-requires
-    map-of-requires
+    read_header-h-requires
+    read_map-x-requires
+    map_of-map-requires
     region-requires
-    cells-after-remove-requires
-    sub-t14
+    cells_after_remove-size-requires
+    overflow_sub-result
     returns)

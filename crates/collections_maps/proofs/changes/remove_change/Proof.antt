@@ -9,53 +9,53 @@ use Rattle.collections_maps.proofs.changes.remove_change.Tie as tie
 locate-requires : tie.Need-locate-requires
 locate-requires c κs = search rules
 
-enum-known-q : tie.Need-enum-known-q
-enum-known-q c = search rules
+enum_known-q : tie.Need-enum_known-q
+enum_known-q c = search rules
 
 unchanged-requires : tie.Need-unchanged-requires
 unchanged-requires c κs = search rules
 
-enum-known-i : tie.Need-enum-known-i
-enum-known-i c = search rules
+enum_known-i : tie.Need-enum_known-i
+enum_known-i c = search rules
 
-remove-found-requires : tie.Need-remove-found-requires
-remove-found-requires c κs = search located_at
+remove_found-requires : tie.Need-remove_found-requires
+remove_found-requires c κs = search located_at
 
-same_length : tie.Need-same-length
-same_length c = search rules
+shape_of-slots-in-Refused : tie.Need-shape_of-slots-in-Refused
+shape_of-slots-in-Refused c = search rules
 
-returns : tie.Need-returns
+returns-in-Refused : tie.Need-returns-in-Refused
 unfolding done_is
-returns c = rw (c.unchanged.ensures) (search remove-refused)
+returns-in-Refused c = rw c.unchanged.ensures (search remove-refused)
 
-same-length-2 : tie.Need-same-length-2
-same-length-2 c = search rules
+shape_of-slots-in-At : tie.Need-shape_of-slots-in-At
+shape_of-slots-in-At c = search rules
 
-same-length-3 : tie.Need-same-length-3
-same-length-3 c = search rules
+shape_of-scalars : tie.Need-shape_of-scalars
+shape_of-scalars c = search rules
 
-same-length-4 : tie.Need-same-length-4
-same-length-4 c = search rules
+shape_of-directory : tie.Need-shape_of-directory
+shape_of-directory c = search rules
 
-same-length-5 : tie.Need-same-length-5
-same-length-5 c = search rules
+shape_of-cells : tie.Need-shape_of-cells
+shape_of-cells c = search rules
 
-returns-2 : tie.Need-returns-2
-returns-2 c = search rules
+returns-in-At : tie.Need-returns-in-At
+returns-in-At c = search rules
 
 pub remove_change_spec : {M : Type 1} → statement M
 remove_change_spec =
     tie.close
     (tie.spec
     locate-requires
-    enum-known-q
+    enum_known-q
     unchanged-requires
-    enum-known-i
-    remove-found-requires
-    same_length
-    returns
-    same-length-2
-    same-length-3
-    same-length-4
-    same-length-5
-    returns-2)
+    enum_known-i
+    remove_found-requires
+    shape_of-slots-in-Refused
+    returns-in-Refused
+    shape_of-slots-in-At
+    shape_of-scalars
+    shape_of-directory
+    shape_of-cells
+    returns-in-At)

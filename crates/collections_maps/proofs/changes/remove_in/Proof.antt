@@ -8,42 +8,40 @@ use borrow.Author.Rules.{rules}
 use Rattle.collections_maps.proofs.changes.remove_in.Statement.{statement}
 use Rattle.collections_maps.proofs.changes.remove_in.Tie as tie
 
-add-to : tie.Need-overflow-add-to
-add-to c = search rules
+overflow_add-to : tie.Need-overflow_add-to
+overflow_add-to c = search rules
 
-mul-remove : tie.Need-overflow-mul-remove
-mul-remove c = search rules
+offset_bounds-cells-from : tie.Need-offset_bounds-cells-from
+offset_bounds-cells-from c = search rules
 
-sub-remove : tie.Need-overflow-sub-remove
-sub-remove c = search rules
+slice_bounds-remove-count : tie.Need-slice_bounds-remove-count
+slice_bounds-remove-count c = search rules
 
-part-remove-start : tie.Need-slice-bounds-remove-start
-part-remove-start c = search rules
+slice_bounds-remove-start : tie.Need-slice_bounds-remove-start
+slice_bounds-remove-start c = search rules
 
-part-remove-end : tie.Need-slice-bounds-remove-end
-part-remove-end c = search rules
+slice_bounds-remove-end : tie.Need-slice_bounds-remove-end
+slice_bounds-remove-end c = search rules
 
 remove-requires : tie.Need-remove-requires
-remove-requires c κs = rw (region-part c.before.before.args.h c.before.before.args.cells.now) (c.before.before.requires.good, region-length-fits c.before.before.args.h c.before.before.args.cells.now c.before.before.requires.inside c.before.before.requires.room)
+remove-requires c κs = rw (region-part c.args.h c.args.cells.now) (c.requires.good, region-length-fits c.args.h c.args.cells.now c.requires.inside c.requires.room)
 
-same_length : tie.Need-same-length
-same_length c = search rules
+shape_of-cells : tie.Need-shape_of-cells
+shape_of-cells c = search rules
 
 returns : tie.Need-returns
 returns c =
-    let at-remove : tie.After-remove = search in
-    let start : tie.Start = search in
-    in_region start.args.h start.args.cells.now (λ (z : List ℕ). room_without start.args.s z) at-remove.remove.last.1.0 start.pre.inside at-remove.remove.kept.1.0 at-remove.remove.ensures
+    in_region c.args.h c.args.cells.now (λ (z : List ℕ). room_without c.args.s z) c.remove.new.cells c.requires.inside c.remove.auto.cells c.remove.ensures
 
 pub remove_in_spec : {M : Type 1} → statement M
 remove_in_spec =
     tie.close
     (tie.spec
-    add-to
-    mul-remove
-    sub-remove
-    part-remove-start
-    part-remove-end
+    overflow_add-to
+    offset_bounds-cells-from
+    slice_bounds-remove-count
+    slice_bounds-remove-start
+    slice_bounds-remove-end
     remove-requires
-    same_length
+    shape_of-cells
     returns)

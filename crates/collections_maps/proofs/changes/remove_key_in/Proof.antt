@@ -8,42 +8,40 @@ use borrow.Author.Rules.{rules}
 use Rattle.collections_maps.proofs.changes.remove_key_in.Statement.{statement}
 use Rattle.collections_maps.proofs.changes.remove_key_in.Tie as tie
 
-add-to : tie.Need-overflow-add-to
-add-to c = search rules
+overflow_add-to : tie.Need-overflow_add-to
+overflow_add-to c = search rules
 
-mul-remove-key : tie.Need-overflow-mul-remove-key
-mul-remove-key c = search rules
+offset_bounds-cells-from : tie.Need-offset_bounds-cells-from
+offset_bounds-cells-from c = search rules
 
-sub-remove-key : tie.Need-overflow-sub-remove-key
-sub-remove-key c = search rules
+slice_bounds-remove_key-count : tie.Need-slice_bounds-remove_key-count
+slice_bounds-remove_key-count c = search rules
 
-part-remove-key-start : tie.Need-slice-bounds-remove-key-start
-part-remove-key-start c = search rules
+slice_bounds-remove_key-start : tie.Need-slice_bounds-remove_key-start
+slice_bounds-remove_key-start c = search rules
 
-part-remove-key-end : tie.Need-slice-bounds-remove-key-end
-part-remove-key-end c = search rules
+slice_bounds-remove_key-end : tie.Need-slice_bounds-remove_key-end
+slice_bounds-remove_key-end c = search rules
 
-remove-key-requires : tie.Need-remove-key-requires
-remove-key-requires c κs = rw (region-part c.before.before.args.h c.before.before.args.cells.now) (c.before.before.requires.good, region-length-fits c.before.before.args.h c.before.before.args.cells.now c.before.before.requires.inside c.before.before.requires.room)
+remove_key-requires : tie.Need-remove_key-requires
+remove_key-requires c κs = rw (region-part c.args.h c.args.cells.now) (c.requires.good, region-length-fits c.args.h c.args.cells.now c.requires.inside c.requires.room)
 
-same_length : tie.Need-same-length
-same_length c = search rules
+shape_of-cells : tie.Need-shape_of-cells
+shape_of-cells c = search rules
 
 returns : tie.Need-returns
 returns c =
-    let at-remove-key : tie.After-remove-key = search in
-    let start : tie.Start = search in
-    in_region start.args.h start.args.cells.now (λ (z : List ℕ). room_without_key start.args.traced start.args.hash start.args.key start.args.s z) at-remove-key.remove_key.last.1.0 start.pre.inside at-remove-key.remove_key.kept.1.0 at-remove-key.remove_key.ensures
+    in_region c.args.h c.args.cells.now (λ (z : List ℕ). room_without_key c.args.traced c.args.hash c.args.key c.args.s z) c.remove_key.new.cells c.requires.inside c.remove_key.auto.cells c.remove_key.ensures
 
 pub remove_key_in_spec : {M : Type 1} → statement M
 remove_key_in_spec =
     tie.close
     (tie.spec
-    add-to
-    mul-remove-key
-    sub-remove-key
-    part-remove-key-start
-    part-remove-key-end
-    remove-key-requires
-    same_length
+    overflow_add-to
+    offset_bounds-cells-from
+    slice_bounds-remove_key-count
+    slice_bounds-remove_key-start
+    slice_bounds-remove_key-end
+    remove_key-requires
+    shape_of-cells
     returns)

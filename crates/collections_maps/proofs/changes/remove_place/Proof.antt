@@ -6,94 +6,73 @@ use borrow.Author.Rules.{rules}
 use Rattle.collections_maps.proofs.changes.remove_place.Statement.{statement}
 use Rattle.collections_maps.proofs.changes.remove_place.Tie as tie
 
-removal-of-requires : tie.Need-removal-of-requires
-removal-of-requires c κs = search rules
+removal_of-p-requires : tie.Need-removal_of-p-requires
+removal_of-p-requires c κs = search rules
 
-sub-if1 : tie.Need-overflow-sub-if1
-sub-if1 c = search rules
+overflow_sub-cells : tie.Need-overflow_sub-cells
+overflow_sub-cells c = search rules
 
 unchanged-requires : tie.Need-unchanged-requires
 unchanged-requires c κs = search rules
 
-same_length : tie.Need-same-length
-same_length c = search rules
+shape_of-slots-then-cells-heap : tie.Need-shape_of-slots-then-cells-heap
+shape_of-slots-then-cells-heap c = search rules
 
-same-length-2 : tie.Need-same-length-2
-same-length-2 c = search rules
+shape_of-scalars-then-cells-heap : tie.Need-shape_of-scalars-then-cells-heap
+shape_of-scalars-then-cells-heap c = search rules
 
-same-length-3 : tie.Need-same-length-3
-same-length-3 c = search rules
+shape_of-directory-then-cells-heap : tie.Need-shape_of-directory-then-cells-heap
+shape_of-directory-then-cells-heap c = search rules
 
-same-length-4 : tie.Need-same-length-4
-same-length-4 c = search rules
+shape_of-cells-then-cells-heap : tie.Need-shape_of-cells-then-cells-heap
+shape_of-cells-then-cells-heap c = search rules
+
+returns-then-cells-heap : tie.Need-returns-then-cells-heap
+unfolding done_is
+returns-then-cells-heap c =
+    rw c.unchanged.ensures (removal_full c.requires.0 c.requires.1 c.removal_of-p.ensures c.if-cells-heap.true)
+
+remove_grown-top-requires : tie.Need-remove_grown-top-requires
+remove_grown-top-requires c κs =
+    (c.requires.0, removal_ready c.requires.0 c.requires.1 c.removal_of-p.ensures c.if-cells-heap.false)
+
+overflow_add-result : tie.Need-overflow_add-result
+overflow_add-result c =
+    omega (arith, removal_taken c.requires.0 c.requires.1 c.removal_of-p.ensures c.if-cells-heap.false)
+
+shape_of-slots : tie.Need-shape_of-slots
+shape_of-slots c = search rules
+
+shape_of-scalars : tie.Need-shape_of-scalars
+shape_of-scalars c = search rules
+
+shape_of-directory : tie.Need-shape_of-directory
+shape_of-directory c = search rules
+
+shape_of-cells : tie.Need-shape_of-cells
+shape_of-cells c = search rules
 
 returns : tie.Need-returns
 unfolding done_is
 returns c =
-    let at-unchanged : tie.After-unchanged = search in
-    let at-then1 : tie.Then1 = search in
-    let at-removal-of : tie.After-removal-of = search in
-    let at-removal-of-arg : tie.After-removal-of-arg = search in
-    let start : tie.Start = search in
-    rw at-unchanged.unchanged.ensures (removal_full start.pre.0 start.pre.1 at-removal-of.removal-of.ensures at-then1.if1.taken)
-
-remove-grown-requires : tie.Need-remove-grown-requires
-remove-grown-requires c κs =
-    let at-else1 : tie.Else1 = search in
-    let at-removal-of : tie.After-removal-of = search in
-    let at-removal-of-arg : tie.After-removal-of-arg = search in
-    let start : tie.Start = search in
-    (start.pre.0, removal_ready start.pre.0 start.pre.1 at-removal-of.removal-of.ensures at-else1.if1.left)
-
-add-t22 : tie.Need-overflow-add-t22
-add-t22 c =
-    let at-directory : tie.After-directory = search in
-    let at-remove-grown : tie.After-remove-grown = search in
-    let at-else1 : tie.Else1 = search in
-    let at-removal-of : tie.After-removal-of = search in
-    let at-removal-of-arg : tie.After-removal-of-arg = search in
-    let start : tie.Start = search in
-    omega (arith, removal_taken start.pre.0 start.pre.1 at-removal-of.removal-of.ensures at-else1.if1.left)
-
-same-length-5 : tie.Need-same-length-5
-same-length-5 c = search rules
-
-same-length-6 : tie.Need-same-length-6
-same-length-6 c = search rules
-
-same-length-7 : tie.Need-same-length-7
-same-length-7 c = search rules
-
-same-length-8 : tie.Need-same-length-8
-same-length-8 c = search rules
-
-returns-2 : tie.Need-returns-2
-unfolding done_is
-returns-2 c =
-    let at-directory : tie.After-directory = search in
-    let at-remove-grown : tie.After-remove-grown = search in
-    let at-else1 : tie.Else1 = search in
-    let at-removal-of : tie.After-removal-of = search in
-    let at-removal-of-arg : tie.After-removal-of-arg = search in
-    let start : tie.Start = search in
-    removal_done start.pre.0 start.pre.1 at-removal-of.removal-of.ensures at-else1.if1.left at-remove-grown.remove-grown.ensures
+    removal_done c.requires.0 c.requires.1 c.removal_of-p.ensures c.if-cells-heap.false c.remove_grown-top.ensures
 
 pub remove_place_spec : {M : Type 1} → statement M
 remove_place_spec =
     tie.close
     (tie.spec
-    removal-of-requires
-    sub-if1
+    removal_of-p-requires
+    overflow_sub-cells
     unchanged-requires
-    same_length
-    same-length-2
-    same-length-3
-    same-length-4
-    returns
-    remove-grown-requires
-    add-t22
-    same-length-5
-    same-length-6
-    same-length-7
-    same-length-8
-    returns-2)
+    shape_of-slots-then-cells-heap
+    shape_of-scalars-then-cells-heap
+    shape_of-directory-then-cells-heap
+    shape_of-cells-then-cells-heap
+    returns-then-cells-heap
+    remove_grown-top-requires
+    overflow_add-result
+    shape_of-slots
+    shape_of-scalars
+    shape_of-directory
+    shape_of-cells
+    returns)

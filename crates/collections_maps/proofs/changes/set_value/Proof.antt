@@ -11,71 +11,50 @@ use Rattle.collections_maps.proofs.changes.set_value.Tie as tie
 locate-requires : tie.Need-locate-requires
 locate-requires c κs = search rules
 
-enum-known-q : tie.Need-enum-known-q
-enum-known-q c = search rules
+enum_known-q : tie.Need-enum_known-q
+enum_known-q c = search rules
 
-enum-known-i : tie.Need-enum-known-i
-enum-known-i c = search rules
+enum_known-i : tie.Need-enum_known-i
+enum_known-i c = search rules
 
-read-header-requires : tie.Need-read-header-requires
-read-header-requires c κs =
-    let at_i : tie.After-i = search in
-    let at-locate : tie.After-locate = search in
-    let start : tie.Start = search in
-    located_fits start.pre at-locate.locate.ensures at_i.i.given.1
+read_header-h-requires : tie.Need-read_header-h-requires
+read_header-h-requires c κs =
+    located_fits c.requires c.locate.ensures c.in-At.is
 
-read-map-requires : tie.Need-read-map-requires
-read-map-requires c κs =
-    let at_i : tie.After-i = search in
-    let at-locate : tie.After-locate = search in
-    let start : tie.Start = search in
-    map-scalars-fit start.pre at-locate.locate.ensures at_i.i.given.1
+read_map-x-requires : tie.Need-read_map-x-requires
+read_map-x-requires c κs =
+    map-scalars-fit c.requires c.locate.ensures c.in-At.is
 
-map-of-requires : tie.Need-map-of-requires
-map-of-requires c κs = search map-epoch-fits
+map_of-requires : tie.Need-map_of-requires
+map_of-requires c κs = search map-epoch-fits
 
-set-value-in-requires : tie.Need-set-value-in-requires
-set-value-in-requires c κs =
-    let at-map-of : tie.After-map-of = search in
-    let at-read-map : tie.After-read-map = search in
-    let at-read-header : tie.After-read-header = search in
-    let at_i : tie.After-i = search in
-    let at-locate : tie.After-locate = search in
-    let at-shared-slice-known3 : tie.After-shared-slice-known3 = search in
-    let start : tie.Start = search in
-    (map-region-fits start.pre at-locate.locate.ensures at_i.i.given.1 at-read-header.read-header.ensures, here-good (map-here start.pre at-locate.locate.ensures at_i.i.given.1 at-read-header.read-header.ensures at-read-map.read-map.ensures at-map-of.map_of.ensures refl))
+set_value_in-requires : tie.Need-set_value_in-requires
+set_value_in-requires c κs =
+    (map-region-fits c.requires c.locate.ensures c.in-At.is c.read_header-h.ensures, here-good (map-here c.requires c.locate.ensures c.in-At.is c.read_header-h.ensures c.read_map-x.ensures c.map_of.ensures refl))
 
-returns : tie.Need-returns
+returns-in-Refused : tie.Need-returns-in-Refused
 unfolding done_is
-returns c = search value-refused
+returns-in-Refused c = search value-refused
 
-same_length : tie.Need-same-length
-same_length c = search rules
+shape_of-cells : tie.Need-shape_of-cells
+shape_of-cells c = search rules
 
-returns-2 : tie.Need-returns-2
+returns-in-At : tie.Need-returns-in-At
 unfolding done_is
-returns-2 c =
-    let at-set-value-in : tie.After-set-value-in = search in
-    let at-map-of : tie.After-map-of = search in
-    let at-read-map : tie.After-read-map = search in
-    let at-read-header : tie.After-read-header = search in
-    let at_i : tie.After-i = search in
-    let at-locate : tie.After-locate = search in
-    let at-shared-slice-known3 : tie.After-shared-slice-known3 = search in
-    let start : tie.Start = search in
-    value_set (map-here start.pre at-locate.locate.ensures at_i.i.given.1 at-read-header.read-header.ensures at-read-map.read-map.ensures at-map-of.map_of.ensures refl) at-set-value-in.set-value-in.ensures.0 at-set-value-in.set-value-in.ensures.1
+returns-in-At c =
+    value_set (map-here c.requires c.locate.ensures c.in-At.is c.read_header-h.ensures c.read_map-x.ensures c.map_of.ensures refl) c.set_value_in.ensures.0 c.set_value_in.ensures.1
 
 pub set_value_spec : {M : Type 1} → statement M
 set_value_spec =
     tie.close
     (tie.spec
     locate-requires
-    enum-known-q
-    enum-known-i
-    read-header-requires
-    read-map-requires
-    map-of-requires
-    set-value-in-requires
-    returns
-    same_length
-    returns-2)
+    enum_known-q
+    enum_known-i
+    read_header-h-requires
+    read_map-x-requires
+    map_of-requires
+    set_value_in-requires
+    returns-in-Refused
+    shape_of-cells
+    returns-in-At)

@@ -5,42 +5,40 @@ use borrow.Author.Rules.{rules}
 use Rattle.collections_maps.proofs.changes.set_value_in.Statement.{statement}
 use Rattle.collections_maps.proofs.changes.set_value_in.Tie as tie
 
-add-to : tie.Need-overflow-add-to
-add-to c = search rules
+overflow_add-to : tie.Need-overflow_add-to
+overflow_add-to c = search rules
 
-mul-set-value : tie.Need-overflow-mul-set-value
-mul-set-value c = search rules
+offset_bounds-cells-from : tie.Need-offset_bounds-cells-from
+offset_bounds-cells-from c = search rules
 
-sub-set-value : tie.Need-overflow-sub-set-value
-sub-set-value c = search rules
+slice_bounds-set_value-count : tie.Need-slice_bounds-set_value-count
+slice_bounds-set_value-count c = search rules
 
-part-set-value-start : tie.Need-slice-bounds-set-value-start
-part-set-value-start c = search rules
+slice_bounds-set_value-start : tie.Need-slice_bounds-set_value-start
+slice_bounds-set_value-start c = search rules
 
-part-set-value-end : tie.Need-slice-bounds-set-value-end
-part-set-value-end c = search rules
+slice_bounds-set_value-end : tie.Need-slice_bounds-set_value-end
+slice_bounds-set_value-end c = search rules
 
-set-value-requires : tie.Need-set-value-requires
-set-value-requires c κs = rw (region-part c.before.before.args.h c.before.before.args.cells.now) c.before.before.requires.1
+set_value-requires : tie.Need-set_value-requires
+set_value-requires c κs = rw (region-part c.args.h c.args.cells.now) c.requires.1
 
-same_length : tie.Need-same-length
-same_length c = search rules
+shape_of-cells : tie.Need-shape_of-cells
+shape_of-cells c = search rules
 
 returns : tie.Need-returns
 returns c =
-    let at-set-value : tie.After-set-value = search in
-    let start : tie.Start = search in
-    valued_in start.args.h start.args.cells.now at-set-value.set_value.last.1.0 start.pre.0 at-set-value.set_value.kept.1.0 at-set-value.set_value.ensures
+    valued_in c.args.h c.args.cells.now c.set_value.new.cells c.requires.0 c.set_value.auto.cells c.set_value.ensures
 
 pub set_value_in_spec : {M : Type 1} → statement M
 set_value_in_spec =
     tie.close
     (tie.spec
-    add-to
-    mul-set-value
-    sub-set-value
-    part-set-value-start
-    part-set-value-end
-    set-value-requires
-    same_length
+    overflow_add-to
+    offset_bounds-cells-from
+    slice_bounds-set_value-count
+    slice_bounds-set_value-start
+    slice_bounds-set_value-end
+    set_value-requires
+    shape_of-cells
     returns)

@@ -10,14 +10,14 @@ use borrow.Author.Rules.{rules}
 use Rattle.collections_maps.proofs.changes.write_map.Statement.{statement}
 use Rattle.collections_maps.proofs.changes.write_map.Tie as tie
 
-read-header-requires : tie.Need-read-header-requires
-read-header-requires c κs = search rules
+read_header-h-requires : tie.Need-read_header-h-requires
+read_header-h-requires c κs = search rules
 
-read-map-requires : tie.Need-read-map-requires
-read-map-requires c κs = search rules
+read_map-x-requires : tie.Need-read_map-x-requires
+read_map-x-requires c κs = search rules
 
-write-header-requires : tie.Need-write-header-requires
-write-header-requires c κs = search rules
+write_header-requires : tie.Need-write_header-requires
+write_header-requires c κs = search rules
 
 flag-requires : tie.Need-flag-requires
 flag-requires c κs = search rules
@@ -25,57 +25,44 @@ flag-requires c κs = search rules
 flag-requires-2 : tie.Need-flag-requires-2
 flag-requires-2 c κs = search rules
 
-bits-of-requires : tie.Need-bits-of-requires
-bits-of-requires c κs = search rules
+bits_of-requires : tie.Need-bits_of-requires
+bits_of-requires c κs = search rules
 
-cast-y : tie.Need-overflow-cast-y
-cast-y c = search rules
+overflow_cast-y : tie.Need-overflow_cast-y
+overflow_cast-y c = search rules
 
-scalars-of-map-requires : tie.Need-scalars-of-map-requires
-scalars-of-map-requires c κs = search rules
+scalars_of_map-requires : tie.Need-scalars_of_map-requires
+scalars_of_map-requires c κs = search rules
 
-write-scalars-requires : tie.Need-write-scalars-requires
-write-scalars-requires c κs =
-    let at-write-header : tie.After-write-header = search in
-    let start : tie.Start = search in
-    (start.pre.0, start.pre.2)
+write_scalars-requires : tie.Need-write_scalars-requires
+write_scalars-requires c κs =
+    (c.requires.0, c.requires.2)
 
-same_length : tie.Need-same-length
-same_length c = search rules
+shape_of-slots : tie.Need-shape_of-slots
+shape_of-slots c = search rules
 
-same-length-2 : tie.Need-same-length-2
-same-length-2 c = search rules
+shape_of-scalars : tie.Need-shape_of-scalars
+shape_of-scalars c = search rules
 
 returns : tie.Need-returns
 returns c =
-    let at-write-scalars : tie.After-write-scalars = search in
-    let at-scalars-of-map : tie.After-scalars-of-map = search in
-    let at-struct-known : tie.After-struct-known = search in
-    let at-bits-of : tie.After-bits-of = search in
-    let at-struct-told : tie.After-struct-told = search in
-    let at-flag2 : tie.After-flag2 = search in
-    let at_flag : tie.After-flag = search in
-    let at-write-header : tie.After-write-header = search in
-    let at-read-map : tie.After-read-map = search in
-    let at-read-header : tie.After-read-header = search in
-    let start : tie.Start = search in
-    let f : SFits w64 start.args.s.noted = record { sfits = at-struct-told.struct_told.given.0.1 } in
-    map-written start.pre.1 start.pre.2 at-read-header.read-header.ensures at-read-map.read-map.ensures at_flag.flag.ensures at-flag2.flag2.ensures (at-bits-of.bits_of.ensures ∙ ap bits_of_signed (to_z-of_z f)) f
-    (omega (arith, at-struct-known.struct_known.given)) at-write-header.write-header.ensures at-scalars-of-map.scalars-of-map.ensures at-write-scalars.write-scalars.ensures
+    let f : SFits w64 c.args.s.noted = record { sfits = c.struct_told-1.given.0.1 } in
+    map-written c.requires.1 c.requires.2 c.read_header-h.ensures c.read_map-x.ensures c.flag.ensures c.flag-2.ensures (c.bits_of.ensures ∙ ap bits_of_signed (to_z-of_z f)) f
+    (omega (arith, c.struct_known-1.given)) c.write_header.ensures c.scalars_of_map.ensures c.write_scalars.ensures
 
 pub write_map_spec : {M : Type 1} → statement M
 write_map_spec =
     tie.close
     (tie.spec
-    read-header-requires
-    read-map-requires
-    write-header-requires
+    read_header-h-requires
+    read_map-x-requires
+    write_header-requires
     flag-requires
     flag-requires-2
-    bits-of-requires
-    cast-y
-    scalars-of-map-requires
-    write-scalars-requires
-    same_length
-    same-length-2
+    bits_of-requires
+    overflow_cast-y
+    scalars_of_map-requires
+    write_scalars-requires
+    shape_of-slots
+    shape_of-scalars
     returns)

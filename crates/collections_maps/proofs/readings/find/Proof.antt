@@ -9,109 +9,69 @@ use Rattle.collections_maps.proofs.readings.find.Tie as tie
 locate-requires : tie.Need-locate-requires
 locate-requires c κs = search rules
 
-enum-known-q : tie.Need-enum-known-q
-enum-known-q c = search rules
+enum_known-q : tie.Need-enum_known-q
+enum_known-q c = search rules
 
-enum-known-i : tie.Need-enum-known-i
-enum-known-i c = search rules
+enum_known-i : tie.Need-enum_known-i
+enum_known-i c = search rules
 
-read-header-requires : tie.Need-read-header-requires
-read-header-requires c κs =
-    let at_i : tie.After-i = search in
-    let at-locate : tie.After-locate = search in
-    let start : tie.Start = search in
-    located_fits start.pre at-locate.locate.ensures at_i.i.given.1
+read_header-h-requires : tie.Need-read_header-h-requires
+read_header-h-requires c κs =
+    located_fits c.requires c.locate.ensures c.in-At.is
 
-read-map-requires : tie.Need-read-map-requires
-read-map-requires c κs =
-    let at_i : tie.After-i = search in
-    let at-locate : tie.After-locate = search in
-    let start : tie.Start = search in
-    map-scalars-fit start.pre at-locate.locate.ensures at_i.i.given.1
+read_map-x-requires : tie.Need-read_map-x-requires
+read_map-x-requires c κs =
+    map-scalars-fit c.requires c.locate.ensures c.in-At.is
 
-map-of-requires : tie.Need-map-of-requires
-map-of-requires c κs = search map-epoch-fits
+map_of-requires : tie.Need-map_of-requires
+map_of-requires c κs = search map-epoch-fits
 
 region-requires : tie.Need-region-requires
 region-requires c κs =
-    let at-read-header : tie.After-read-header = search in
-    let at_i : tie.After-i = search in
-    let at-locate : tie.After-locate = search in
-    let start : tie.Start = search in
-    map-region-fits start.pre at-locate.locate.ensures at_i.i.given.1 at-read-header.read-header.ensures
+    map-region-fits c.requires c.locate.ensures c.in-At.is c.read_header-h.ensures
 
 traced-requires : tie.Need-traced-requires
 traced-requires c κs = search rules
 
 find-requires : tie.Need-find-requires
 find-requires c κs =
-    let at-region : tie.After-region = search in
-    let at-map-of : tie.After-map-of = search in
-    let at-read-map : tie.After-read-map = search in
-    let at-read-header : tie.After-read-header = search in
-    let at_i : tie.After-i = search in
-    let at-locate : tie.After-locate = search in
-    let at-shared-slice-known3 : tie.After-shared-slice-known3 = search in
-    let start : tie.Start = search in
-    here-good (map-here start.pre at-locate.locate.ensures at_i.i.given.1 at-read-header.read-header.ensures at-read-map.read-map.ensures at-map-of.map_of.ensures at-region.region.ensures)
+    here-good (map-here c.requires c.locate.ensures c.in-At.is c.read_header-h.ensures c.read_map-x.ensures c.map_of.ensures c.region.ensures)
 
-enum_told : tie.Need-enum-told
-enum_told c = search rules
+enum_told-1 : tie.Need-enum_told-1
+enum_told-1 c = search rules
 
-enum-known-pos : tie.Need-enum-known-pos
-enum-known-pos c = search rules
+enum_known-pos : tie.Need-enum_known-pos
+enum_known-pos c = search rules
 
-returns : tie.Need-returns
+returns-in-Refused : tie.Need-returns-in-Refused
 unfolding perhaps_is
-returns c = search find-refused
+returns-in-Refused c = search find-refused
 
-returns-2 : tie.Need-returns-2
+returns-in-Nothing : tie.Need-returns-in-Nothing
 unfolding perhaps_is
-returns-2 c =
-    let at-enum-told : tie.After-enum-told = search in
-    let at-find : tie.After-find = search in
-    let at-traced : tie.After-traced = search in
-    let at-region : tie.After-region = search in
-    let at-map-of : tie.After-map-of = search in
-    let at-read-map : tie.After-read-map = search in
-    let at-read-header : tie.After-read-header = search in
-    let at_i : tie.After-i = search in
-    let at-locate : tie.After-locate = search in
-    let at-shared-slice-known3 : tie.After-shared-slice-known3 = search in
-    let start : tie.Start = search in
-    find-nothing (map-here start.pre at-locate.locate.ensures at_i.i.given.1 at-read-header.read-header.ensures at-read-map.read-map.ensures at-map-of.map_of.ensures at-region.region.ensures) at-traced.traced.ensures at-find.find.ensures at-enum-told.enum_told.given.1
+returns-in-Nothing c =
+    find-nothing (map-here c.requires c.locate.ensures c.in-At.is c.read_header-h.ensures c.read_map-x.ensures c.map_of.ensures c.region.ensures) c.traced.ensures c.find.ensures c.in-Nothing.is
 
-returns-3 : tie.Need-returns-3
+returns-in-At-find : tie.Need-returns-in-At-find
 unfolding perhaps_is
-returns-3 c =
-    let at-pos : tie.After-pos = search in
-    let at-find : tie.After-find = search in
-    let at-traced : tie.After-traced = search in
-    let at-region : tie.After-region = search in
-    let at-map-of : tie.After-map-of = search in
-    let at-read-map : tie.After-read-map = search in
-    let at-read-header : tie.After-read-header = search in
-    let at_i : tie.After-i = search in
-    let at-locate : tie.After-locate = search in
-    let at-shared-slice-known3 : tie.After-shared-slice-known3 = search in
-    let start : tie.Start = search in
-    find_at (map-here start.pre at-locate.locate.ensures at_i.i.given.1 at-read-header.read-header.ensures at-read-map.read-map.ensures at-map-of.map_of.ensures at-region.region.ensures) at-traced.traced.ensures at-find.find.ensures at-pos.pos.given.1
+returns-in-At-find c =
+    find_at (map-here c.requires c.locate.ensures c.in-At.is c.read_header-h.ensures c.read_map-x.ensures c.map_of.ensures c.region.ensures) c.traced.ensures c.find.ensures c.in-At-find.is
 
 pub find_spec : {M : Type 1} → statement M
 find_spec =
     tie.close
     (tie.spec
     locate-requires
-    enum-known-q
-    enum-known-i
-    read-header-requires
-    read-map-requires
-    map-of-requires
+    enum_known-q
+    enum_known-i
+    read_header-h-requires
+    read_map-x-requires
+    map_of-requires
     region-requires
     traced-requires
     find-requires
-    enum_told
-    enum-known-pos
-    returns
-    returns-2
-    returns-3)
+    enum_told-1
+    enum_known-pos
+    returns-in-Refused
+    returns-in-Nothing
+    returns-in-At-find)

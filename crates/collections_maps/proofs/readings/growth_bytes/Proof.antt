@@ -9,83 +9,55 @@ use Rattle.collections_maps.proofs.readings.growth_bytes.Tie as tie
 locate-requires : tie.Need-locate-requires
 locate-requires c κs = search rules
 
-enum-known-q : tie.Need-enum-known-q
-enum-known-q c = search rules
+enum_known-q : tie.Need-enum_known-q
+enum_known-q c = search rules
 
-enum-known-i : tie.Need-enum-known-i
-enum-known-i c = search rules
+enum_known-i : tie.Need-enum_known-i
+enum_known-i c = search rules
 
-read-header-requires : tie.Need-read-header-requires
-read-header-requires c κs =
-    let at_i : tie.After-i = search in
-    let at-locate : tie.After-locate = search in
-    let start : tie.Start = search in
-    located_fits start.pre at-locate.locate.ensures at_i.i.given.1
+read_header-h-requires : tie.Need-read_header-h-requires
+read_header-h-requires c κs =
+    located_fits c.requires c.locate.ensures c.in-At.is
 
-read-map-requires : tie.Need-read-map-requires
-read-map-requires c κs =
-    let at_i : tie.After-i = search in
-    let at-locate : tie.After-locate = search in
-    let start : tie.Start = search in
-    map-scalars-fit start.pre at-locate.locate.ensures at_i.i.given.1
+read_map-x-requires : tie.Need-read_map-x-requires
+read_map-x-requires c κs =
+    map-scalars-fit c.requires c.locate.ensures c.in-At.is
 
-map-of-requires : tie.Need-map-of-requires
-map-of-requires c κs = search map-epoch-fits
+map_of-requires : tie.Need-map_of-requires
+map_of-requires c κs = search map-epoch-fits
 
 region-requires : tie.Need-region-requires
 region-requires c κs =
-    let at-read-header : tie.After-read-header = search in
-    let at_i : tie.After-i = search in
-    let at-locate : tie.After-locate = search in
-    let start : tie.Start = search in
-    map-region-fits start.pre at-locate.locate.ensures at_i.i.given.1 at-read-header.read-header.ensures
+    map-region-fits c.requires c.locate.ensures c.in-At.is c.read_header-h.ensures
 
 traced-requires : tie.Need-traced-requires
 traced-requires c κs = search rules
 
-growth-bytes-requires : tie.Need-growth-bytes-requires
-growth-bytes-requires c κs =
-    let at-region : tie.After-region = search in
-    let at-map-of : tie.After-map-of = search in
-    let at-read-map : tie.After-read-map = search in
-    let at-read-header : tie.After-read-header = search in
-    let at_i : tie.After-i = search in
-    let at-locate : tie.After-locate = search in
-    let at-shared-slice-known3 : tie.After-shared-slice-known3 = search in
-    let start : tie.Start = search in
-    (here-good (map-here start.pre at-locate.locate.ensures at_i.i.given.1 at-read-header.read-header.ensures at-read-map.read-map.ensures at-map-of.map_of.ensures at-region.region.ensures), start.pre.weights.entry.1)
+growth_bytes-requires : tie.Need-growth_bytes-requires
+growth_bytes-requires c κs =
+    (here-good (map-here c.requires c.locate.ensures c.in-At.is c.read_header-h.ensures c.read_map-x.ensures c.map_of.ensures c.region.ensures), c.requires.weights.entry.1)
 
-returns : tie.Need-returns
+returns-in-Refused : tie.Need-returns-in-Refused
 unfolding reading_is
-returns c = search growth-refused
+returns-in-Refused c = search growth-refused
 
-returns-2 : tie.Need-returns-2
+returns-in-At : tie.Need-returns-in-At
 unfolding reading_is
-returns-2 c =
-    let at-growth-bytes : tie.After-growth-bytes = search in
-    let at-traced : tie.After-traced = search in
-    let at-region : tie.After-region = search in
-    let at-map-of : tie.After-map-of = search in
-    let at-read-map : tie.After-read-map = search in
-    let at-read-header : tie.After-read-header = search in
-    let at_i : tie.After-i = search in
-    let at-locate : tie.After-locate = search in
-    let at-shared-slice-known3 : tie.After-shared-slice-known3 = search in
-    let start : tie.Start = search in
-    growth_read (map-here start.pre at-locate.locate.ensures at_i.i.given.1 at-read-header.read-header.ensures at-read-map.read-map.ensures at-map-of.map_of.ensures at-region.region.ensures) at-traced.traced.ensures at-growth-bytes.growth_bytes.ensures
+returns-in-At c =
+    growth_read (map-here c.requires c.locate.ensures c.in-At.is c.read_header-h.ensures c.read_map-x.ensures c.map_of.ensures c.region.ensures) c.traced.ensures c.growth_bytes.ensures
 
 pub growth_bytes_spec : {M : Type 1} → statement M
 growth_bytes_spec =
     tie.close
     (tie.spec
     locate-requires
-    enum-known-q
-    enum-known-i
-    read-header-requires
-    read-map-requires
-    map-of-requires
+    enum_known-q
+    enum_known-i
+    read_header-h-requires
+    read_map-x-requires
+    map_of-requires
     region-requires
     traced-requires
-    growth-bytes-requires
-    returns
-    returns-2)
+    growth_bytes-requires
+    returns-in-Refused
+    returns-in-At)

@@ -7,24 +7,29 @@ use Rattle.collections_maps.proofs.readings.live_count.Tie as tie
 locate-requires : tie.Need-locate-requires
 locate-requires c κs = search rules
 
-enum-known-q : tie.Need-enum-known-q
-enum-known-q c = search rules
+enum_known-q : tie.Need-enum_known-q
+enum_known-q c = search rules
 
-enum-known-i : tie.Need-enum-known-i
-enum-known-i c = search rules
+enum_known-i : tie.Need-enum_known-i
+enum_known-i c = search rules
 
-read-map-requires : tie.Need-read-map-requires
-read-map-requires c κs =
-    let at_i : tie.After-i = search in
-    let at-locate : tie.After-locate = search in
-    let start : tie.Start = search in
-    map-scalars-fit start.pre at-locate.locate.ensures at_i.i.given.1
+read_map-x-requires : tie.Need-read_map-x-requires
+read_map-x-requires c κs =
+    map-scalars-fit c.requires c.locate.ensures c.in-At.is
 
-returns : tie.Need-returns
-returns c = search live-refused
+returns-in-Refused : tie.Need-returns-in-Refused
+returns-in-Refused c = search live-refused
 
-returns-2 : tie.Need-returns-2
-returns-2 c = search live_read
+returns-in-At : tie.Need-returns-in-At
+returns-in-At c = search live_read
 
 pub live_count_spec : {M : Type 1} → statement M
-live_count_spec = tie.close (tie.spec locate-requires enum-known-q enum-known-i read-map-requires returns returns-2)
+live_count_spec =
+    tie.close
+    (tie.spec
+    locate-requires
+    enum_known-q
+    enum_known-i
+    read_map-x-requires
+    returns-in-Refused
+    returns-in-At)

@@ -11,50 +11,41 @@ use Rattle.collections_maps.proofs.readings.noted_key.Tie as tie
 locate-requires : tie.Need-locate-requires
 locate-requires c κs = search rules
 
-enum-known-q : tie.Need-enum-known-q
-enum-known-q c = search rules
+enum_known-q : tie.Need-enum_known-q
+enum_known-q c = search rules
 
-enum-known-i : tie.Need-enum-known-i
-enum-known-i c = search rules
+enum_known-i : tie.Need-enum_known-i
+enum_known-i c = search rules
 
-read-map-requires : tie.Need-read-map-requires
-read-map-requires c κs =
-    let at_i : tie.After-i = search in
-    let at-locate : tie.After-locate = search in
-    let start : tie.Start = search in
-    map-scalars-fit start.pre at-locate.locate.ensures at_i.i.given.1
+read_map-x-requires : tie.Need-read_map-x-requires
+read_map-x-requires c κs =
+    map-scalars-fit c.requires c.locate.ensures c.in-At.is
 
-returns : tie.Need-returns
+returns-then-x-eq0 : tie.Need-returns-then-x-eq0
 unfolding noted_seen
-returns c = search noted_nothing
+returns-then-x-eq0 c = search noted_nothing
 
-signed-of-requires : tie.Need-signed-of-requires
-signed-of-requires c κs = search rules
+signed_of-requires : tie.Need-signed_of-requires
+signed_of-requires c κs = search rules
 
-returns-2 : tie.Need-returns-2
+returns-in-Refused : tie.Need-returns-in-Refused
 unfolding noted_seen
-returns-2 c = search noted-refused
+returns-in-Refused c = search noted-refused
 
-returns-3 : tie.Need-returns-3
+returns-else-x-eq0 : tie.Need-returns-else-x-eq0
 unfolding noted_seen
-returns-3 c =
-    let at-signed-of : tie.After-signed-of = search in
-    let at-else1 : tie.Else1 = search in
-    let at-read-map : tie.After-read-map = search in
-    let at_i : tie.After-i = search in
-    let at-locate : tie.After-locate = search in
-    let start : tie.Start = search in
-    noted-some start.pre at-locate.locate.ensures at_i.i.given.1 at-read-map.read-map.ensures at-else1.if1.left (to_z-of_z {w = w64} (record { sfits = at-signed-of.Signed-of.ok }) ∙ at-signed-of.Signed-of.ensures)
+returns-else-x-eq0 c =
+    noted-some c.requires c.locate.ensures c.in-At.is c.read_map-x.ensures c.if-x-eq0.false (to_z-of_z {w = w64} (record { sfits = c.signed_of.type_inv }) ∙ c.signed_of.ensures)
 
 pub noted_key_spec : {M : Type 1} → statement M
 noted_key_spec =
     tie.close
     (tie.spec
     locate-requires
-    enum-known-q
-    enum-known-i
-    read-map-requires
-    returns
-    signed-of-requires
-    returns-2
-    returns-3)
+    enum_known-q
+    enum_known-i
+    read_map-x-requires
+    returns-then-x-eq0
+    signed_of-requires
+    returns-in-Refused
+    returns-else-x-eq0)

@@ -9,103 +9,65 @@ use Rattle.collections_maps.proofs.readings.read_entry.Tie as tie
 locate-requires : tie.Need-locate-requires
 locate-requires c κs = search rules
 
-enum-known-q : tie.Need-enum-known-q
-enum-known-q c = search rules
+enum_known-q : tie.Need-enum_known-q
+enum_known-q c = search rules
 
-enum-known-i : tie.Need-enum-known-i
-enum-known-i c = search rules
+enum_known-i : tie.Need-enum_known-i
+enum_known-i c = search rules
 
-read-header-requires : tie.Need-read-header-requires
-read-header-requires c κs =
-    let at_i : tie.After-i = search in
-    let at-locate : tie.After-locate = search in
-    let start : tie.Start = search in
-    located_fits start.pre at-locate.locate.ensures at_i.i.given.1
+read_header-h-requires : tie.Need-read_header-h-requires
+read_header-h-requires c κs =
+    located_fits c.requires c.locate.ensures c.in-At.is
 
-read-map-requires : tie.Need-read-map-requires
-read-map-requires c κs =
-    let at_i : tie.After-i = search in
-    let at-locate : tie.After-locate = search in
-    let start : tie.Start = search in
-    map-scalars-fit start.pre at-locate.locate.ensures at_i.i.given.1
+read_map-x-requires : tie.Need-read_map-x-requires
+read_map-x-requires c κs =
+    map-scalars-fit c.requires c.locate.ensures c.in-At.is
 
-map-of-requires : tie.Need-map-of-requires
-map-of-requires c κs = search map-epoch-fits
+map_of-requires : tie.Need-map_of-requires
+map_of-requires c κs = search map-epoch-fits
 
 region-requires : tie.Need-region-requires
 region-requires c κs =
-    let at-read-header : tie.After-read-header = search in
-    let at_i : tie.After-i = search in
-    let at-locate : tie.After-locate = search in
-    let start : tie.Start = search in
-    map-region-fits start.pre at-locate.locate.ensures at_i.i.given.1 at-read-header.read-header.ensures
+    map-region-fits c.requires c.locate.ensures c.in-At.is c.read_header-h.ensures
 
 entry-requires : tie.Need-entry-requires
 entry-requires c κs =
-    let at-region : tie.After-region = search in
-    let at-map-of : tie.After-map-of = search in
-    let at-read-map : tie.After-read-map = search in
-    let at-read-header : tie.After-read-header = search in
-    let at_i : tie.After-i = search in
-    let at-locate : tie.After-locate = search in
-    let at-shared-slice-known3 : tie.After-shared-slice-known3 = search in
-    let start : tie.Start = search in
-    here-good (map-here start.pre at-locate.locate.ensures at_i.i.given.1 at-read-header.read-header.ensures at-read-map.read-map.ensures at-map-of.map_of.ensures at-region.region.ensures)
+    here-good (map-here c.requires c.locate.ensures c.in-At.is c.read_header-h.ensures c.read_map-x.ensures c.map_of.ensures c.region.ensures)
 
-enum_told : tie.Need-enum-told
-enum_told c = search rules
+enum_told-1 : tie.Need-enum_told-1
+enum_told-1 c = search rules
 
-enum-known-e : tie.Need-enum-known-e
-enum-known-e c = search rules
+enum_known-e : tie.Need-enum_known-e
+enum_known-e c = search rules
 
-returns : tie.Need-returns
+returns-in-Refused : tie.Need-returns-in-Refused
 unfolding entry_seen
-returns c = search entry-refused
+returns-in-Refused c = search entry-refused
 
-returns-2 : tie.Need-returns-2
+returns-in-Outside : tie.Need-returns-in-Outside
 unfolding entry_seen
-returns-2 c =
-    let at-enum-told : tie.After-enum-told = search in
-    let at_entry : tie.After-entry = search in
-    let at-region : tie.After-region = search in
-    let at-map-of : tie.After-map-of = search in
-    let at-read-map : tie.After-read-map = search in
-    let at-read-header : tie.After-read-header = search in
-    let at_i : tie.After-i = search in
-    let at-locate : tie.After-locate = search in
-    let at-shared-slice-known3 : tie.After-shared-slice-known3 = search in
-    let start : tie.Start = search in
-    entry-outside (map-here start.pre at-locate.locate.ensures at_i.i.given.1 at-read-header.read-header.ensures at-read-map.read-map.ensures at-map-of.map_of.ensures at-region.region.ensures) at_entry.entry.ensures at-enum-told.enum_told.given.1
+returns-in-Outside c =
+    entry-outside (map-here c.requires c.locate.ensures c.in-At.is c.read_header-h.ensures c.read_map-x.ensures c.map_of.ensures c.region.ensures) c.entry.ensures c.in-Outside.is
 
-returns-3 : tie.Need-returns-3
+returns-in-Place : tie.Need-returns-in-Place
 unfolding entry_seen
-returns-3 c =
-    let at-e : tie.After-e = search in
-    let at_entry : tie.After-entry = search in
-    let at-region : tie.After-region = search in
-    let at-map-of : tie.After-map-of = search in
-    let at-read-map : tie.After-read-map = search in
-    let at-read-header : tie.After-read-header = search in
-    let at_i : tie.After-i = search in
-    let at-locate : tie.After-locate = search in
-    let at-shared-slice-known3 : tie.After-shared-slice-known3 = search in
-    let start : tie.Start = search in
-    entry_at (map-here start.pre at-locate.locate.ensures at_i.i.given.1 at-read-header.read-header.ensures at-read-map.read-map.ensures at-map-of.map_of.ensures at-region.region.ensures) at_entry.entry.ensures at-e.e.given.1
+returns-in-Place c =
+    entry_at (map-here c.requires c.locate.ensures c.in-At.is c.read_header-h.ensures c.read_map-x.ensures c.map_of.ensures c.region.ensures) c.entry.ensures c.in-Place.is
 
 pub read_entry_spec : {M : Type 1} → statement M
 read_entry_spec =
     tie.close
     (tie.spec
     locate-requires
-    enum-known-q
-    enum-known-i
-    read-header-requires
-    read-map-requires
-    map-of-requires
+    enum_known-q
+    enum_known-i
+    read_header-h-requires
+    read_map-x-requires
+    map_of-requires
     region-requires
     entry-requires
-    enum_told
-    enum-known-e
-    returns
-    returns-2
-    returns-3)
+    enum_told-1
+    enum_known-e
+    returns-in-Refused
+    returns-in-Outside
+    returns-in-Place)

@@ -4,11 +4,15 @@ use borrow.Author.Rules.{rules}
 use Rattle.heap_access.proofs.readings.array_capacity.Statement.{statement}
 use Rattle.heap_access.proofs.readings.array_capacity.Tie as tie
 
-read-size-requires : tie.Need-read-size-requires
-read-size-requires c κs = search rules
+read_size-requires : tie.Need-read_size-requires
+read_size-requires c κs = search rules
 
 returns : tie.Need-returns
-returns c = array-capacity_read c.before.before.before.before.before.before.requires c.read-size.ensures
+returns c = array-capacity_read c.requires c.read_size.ensures
 
 pub array_capacity_spec : {M : Type 1} → statement M
-array_capacity_spec = tie.close (tie.spec read-size-requires returns)
+array_capacity_spec =
+    tie.close
+    (tie.spec
+    read_size-requires
+    returns)

@@ -14,24 +14,30 @@ use Rattle.heap_access.proofs.readings.coroutine_finalized.Tie as tie
 locate-requires : tie.Need-locate-requires
 locate-requires c κs = search rules
 
-enum-known-q : tie.Need-enum-known-q
-enum-known-q c = search rules
+enum_known-q : tie.Need-enum_known-q
+enum_known-q c = search rules
 
-enum-known-i : tie.Need-enum-known-i
-enum-known-i c = search rules
+enum_known-i : tie.Need-enum_known-i
+enum_known-i c = search rules
 
-read-coroutine-requires : tie.Need-read-coroutine-requires
-read-coroutine-requires c κs = scalars_fit c.before.before.before.before.before.before.before.before.before.requires (located_at c.before.before.before.before.before.before.before.before.before.requires c.before.before.before.locate.ensures c.before.i.given.1).reached
+read_coroutine-x-requires : tie.Need-read_coroutine-x-requires
+read_coroutine-x-requires c κs = scalars_fit c.requires (located_at c.requires c.locate.ensures c.in-At.is).reached
 
-returns : tie.Need-returns
+returns-in-Refused : tie.Need-returns-in-Refused
 unfolding terms uncharged test_is
-returns c = reads_refused c.before.before.before.before.before.before.before.before.before.requires says_coroutine (Calls.coroutine_finalized _) c.before.before.before.locate.ensures c.before.q.given.1 (λ l. refl) (λ l. refl)
+returns-in-Refused c = reads_refused c.requires says_coroutine (Calls.coroutine_finalized _) c.locate.ensures c.in-Refused.is (λ l. refl) (λ l. refl)
 
-returns-2 : tie.Need-returns-2
+returns-in-At : tie.Need-returns-in-At
 unfolding test_is
-returns-2 c = finalized_read c.before.before.before.before.before.before.before.before.before.before.before.requires c.before.before.before.before.before.locate.ensures c.before.before.before.i.given.1 c.before.read-coroutine.ensures
+returns-in-At c = finalized_read c.requires c.locate.ensures c.in-At.is c.read_coroutine-x.ensures
 
 pub coroutine_finalized_spec : {M : Type 1} → statement M
 coroutine_finalized_spec =
     tie.close
-    (tie.spec locate-requires enum-known-q enum-known-i read-coroutine-requires returns returns-2)
+    (tie.spec
+    locate-requires
+    enum_known-q
+    enum_known-i
+    read_coroutine-x-requires
+    returns-in-Refused
+    returns-in-At)

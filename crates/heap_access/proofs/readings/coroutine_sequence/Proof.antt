@@ -4,11 +4,15 @@ use borrow.Author.Rules.{rules}
 use Rattle.heap_access.proofs.readings.coroutine_sequence.Statement.{statement}
 use Rattle.heap_access.proofs.readings.coroutine_sequence.Tie as tie
 
-read-value-requires : tie.Need-read-value-requires
-read-value-requires c κs = search rules
+read_value-requires : tie.Need-read_value-requires
+read_value-requires c κs = search rules
 
 returns : tie.Need-returns
-returns c = sequence_read c.before.before.before.before.before.before.requires c.read-value.ensures
+returns c = sequence_read c.requires c.read_value.ensures
 
 pub coroutine_sequence_spec : {M : Type 1} → statement M
-coroutine_sequence_spec = tie.close (tie.spec read-value-requires returns)
+coroutine_sequence_spec =
+    tie.close
+    (tie.spec
+    read_value-requires
+    returns)

@@ -4,11 +4,15 @@ use borrow.Author.Rules.{rules}
 use Rattle.heap_access.proofs.readings.error_kind.Statement.{statement}
 use Rattle.heap_access.proofs.readings.error_kind.Tie as tie
 
-read-mode-requires : tie.Need-read-mode-requires
-read-mode-requires c κs = search rules
+read_mode-requires : tie.Need-read_mode-requires
+read_mode-requires c κs = search rules
 
 returns : tie.Need-returns
-returns c = error-kind_read c.before.before.before.before.before.before.requires c.read-mode.ensures
+returns c = error-kind_read c.requires c.read_mode.ensures
 
 pub error_kind_spec : {M : Type 1} → statement M
-error_kind_spec = tie.close (tie.spec read-mode-requires returns)
+error_kind_spec =
+    tie.close
+    (tie.spec
+    read_mode-requires
+    returns)

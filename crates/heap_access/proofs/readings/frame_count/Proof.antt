@@ -4,11 +4,15 @@ use borrow.Author.Rules.{rules}
 use Rattle.heap_access.proofs.readings.frame_count.Statement.{statement}
 use Rattle.heap_access.proofs.readings.frame_count.Tie as tie
 
-read-scalar-requires : tie.Need-read-scalar-requires
-read-scalar-requires c κs = search rules
+read_scalar-requires : tie.Need-read_scalar-requires
+read_scalar-requires c κs = search rules
 
 returns : tie.Need-returns
-returns c = frame-count_read c.before.before.before.before.before.before.requires c.read-scalar.ensures
+returns c = frame-count_read c.requires c.read_scalar.ensures
 
 pub frame_count_spec : {M : Type 1} → statement M
-frame_count_spec = tie.close (tie.spec read-scalar-requires returns)
+frame_count_spec =
+    tie.close
+    (tie.spec
+    read_scalar-requires
+    returns)

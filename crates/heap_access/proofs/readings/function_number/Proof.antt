@@ -4,11 +4,15 @@ use borrow.Author.Rules.{rules}
 use Rattle.heap_access.proofs.readings.function_number.Statement.{statement}
 use Rattle.heap_access.proofs.readings.function_number.Tie as tie
 
-read-value-requires : tie.Need-read-value-requires
-read-value-requires c κs = search rules
+read_value-requires : tie.Need-read_value-requires
+read_value-requires c κs = search rules
 
 returns : tie.Need-returns
-returns c = function-number_read c.before.before.before.before.before.before.requires c.read-value.ensures
+returns c = function-number_read c.requires c.read_value.ensures
 
 pub function_number_spec : {M : Type 1} → statement M
-function_number_spec = tie.close (tie.spec read-value-requires returns)
+function_number_spec =
+    tie.close
+    (tie.spec
+    read_value-requires
+    returns)

@@ -14,24 +14,30 @@ use Rattle.heap_access.proofs.readings.is_import.Tie as tie
 locate-requires : tie.Need-locate-requires
 locate-requires c κs = search rules
 
-enum-known-q : tie.Need-enum-known-q
-enum-known-q c = search rules
+enum_known-q : tie.Need-enum_known-q
+enum_known-q c = search rules
 
-enum-known-i : tie.Need-enum-known-i
-enum-known-i c = search rules
+enum_known-i : tie.Need-enum_known-i
+enum_known-i c = search rules
 
-read-header-requires : tie.Need-read-header-requires
-read-header-requires c κs = located_fits c.before.before.before.before.before.before.before.before.before.requires c.before.before.before.locate.ensures c.before.i.given.1
+read_header-h-requires : tie.Need-read_header-h-requires
+read_header-h-requires c κs = located_fits c.requires c.locate.ensures c.in-At.is
 
-returns : tie.Need-returns
+returns-in-Refused : tie.Need-returns-in-Refused
 unfolding terms uncharged test_is
-returns c = reads_refused c.before.before.before.before.before.before.before.before.before.requires says_function (Calls.is_import _) c.before.before.before.locate.ensures c.before.q.given.1 (λ l. refl) (λ l. refl)
+returns-in-Refused c = reads_refused c.requires says_function (Calls.is_import _) c.locate.ensures c.in-Refused.is (λ l. refl) (λ l. refl)
 
-returns-2 : tie.Need-returns-2
+returns-in-At : tie.Need-returns-in-At
 unfolding test_is
-returns-2 c = import_read c.before.before.before.before.before.before.before.before.before.before.before.requires c.before.before.before.before.before.locate.ensures c.before.before.before.i.given.1 c.before.read-header.ensures
+returns-in-At c = import_read c.requires c.locate.ensures c.in-At.is c.read_header-h.ensures
 
 pub is_import_spec : {M : Type 1} → statement M
 is_import_spec =
     tie.close
-    (tie.spec locate-requires enum-known-q enum-known-i read-header-requires returns returns-2)
+    (tie.spec
+    locate-requires
+    enum_known-q
+    enum_known-i
+    read_header-h-requires
+    returns-in-Refused
+    returns-in-At)

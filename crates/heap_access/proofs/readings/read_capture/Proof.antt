@@ -4,11 +4,15 @@ use Rattle.heap_access.proofs.ReadingLaws.{capture-words, words-fit}
 use Rattle.heap_access.proofs.readings.read_capture.Statement.{statement}
 use Rattle.heap_access.proofs.readings.read_capture.Tie as tie
 
-read-word-requires : tie.Need-read-word-requires
-read-word-requires c κs = words-fit c.before.before.before.before.before.requires capture-words
+read_word-requires : tie.Need-read_word-requires
+read_word-requires c κs = words-fit c.requires capture-words
 
 returns : tie.Need-returns
-returns c = capture_read c.before.before.before.before.before.before.requires _ c.read_word.ensures
+returns c = capture_read c.requires _ c.read_word.ensures
 
 pub read_capture_spec : {M : Type 1} → statement M
-read_capture_spec = tie.close (tie.spec read-word-requires returns)
+read_capture_spec =
+    tie.close
+    (tie.spec
+    read_word-requires
+    returns)

@@ -15,55 +15,55 @@ use Rattle.heap_access.proofs.readings.read_frame.Tie as tie
 locate-requires : tie.Need-locate-requires
 locate-requires c κs = search rules
 
-enum-known-q : tie.Need-enum-known-q
-enum-known-q c = search rules
+enum_known-q : tie.Need-enum_known-q
+enum_known-q c = search rules
 
-enum-known-at : tie.Need-enum-known-at
-enum-known-at c = search rules
+enum_known-at : tie.Need-enum_known-at
+enum_known-at c = search rules
 
-read-coroutine-requires : tie.Need-read-coroutine-requires
-read-coroutine-requires c κs = scalars_fit c.before.before.before.before.before.before.before.before.before.requires (located_at c.before.before.before.before.before.before.before.before.before.requires c.before.before.before.locate.ensures c.before.at.given.1).reached
+read_coroutine-x-requires : tie.Need-read_coroutine-x-requires
+read_coroutine-x-requires c κs = scalars_fit c.requires (located_at c.requires c.locate.ensures c.in-At.is).reached
 
-returns : tie.Need-returns
+returns-then-x-i : tie.Need-returns-then-x-i
 unfolding frame_seen
-returns c = frame-outside _ c.before.before.before.before.before.before.before.before.before.before.before.before.requires c.before.before.before.before.before.before.locate.ensures c.before.before.before.before.at.given.1 c.before.before.read-coroutine.ensures c.if1.true
+returns-then-x-i c = frame-outside _ c.requires c.locate.ensures c.in-At.is c.read_coroutine-x.ensures c.if-x-i.true
 
-read-header-requires : tie.Need-read-header-requires
-read-header-requires c κs = located_fits c.before.before.before.before.before.before.before.before.before.before.before.before.requires c.before.before.before.before.before.before.locate.ensures c.before.before.before.before.at.given.1
+read_header-h-requires : tie.Need-read_header-h-requires
+read_header-h-requires c κs = located_fits c.requires c.locate.ensures c.in-At.is
 
-add-p : tie.Need-overflow-add-p
-add-p c = omega (arith, frame-fits _ c.before.before.before.before.before.before.before.before.before.before.before.before.before.before.requires c.before.before.before.before.before.before.before.before.locate.ensures c.before.before.before.before.before.before.at.given.1 c.before.before.before.before.read-coroutine.ensures c.before.read-header.ensures c.before.before.if1.false)
+overflow_add-p : tie.Need-overflow_add-p
+overflow_add-p c = omega (arith, frame-fits _ c.requires c.locate.ensures c.in-At.is c.read_coroutine-x.ensures c.read_header-h.ensures c.if-x-i.false)
 
-mul-p : tie.Need-overflow-mul-p
-mul-p c = omega (arith, frame-fits _ c.before.before.before.before.before.before.before.before.before.before.before.before.before.before.requires c.before.before.before.before.before.before.before.before.locate.ensures c.before.before.before.before.before.before.at.given.1 c.before.before.before.before.read-coroutine.ensures c.before.read-header.ensures c.before.before.if1.false)
+overflow_mul-p : tie.Need-overflow_mul-p
+overflow_mul-p c = omega (arith, frame-fits _ c.requires c.locate.ensures c.in-At.is c.read_coroutine-x.ensures c.read_header-h.ensures c.if-x-i.false)
 
-add-p-2 : tie.Need-overflow-add-p-2
-add-p-2 c = omega (arith, frame-fits _ c.before.before.before.before.before.before.before.before.before.before.before.before.before.before.requires c.before.before.before.before.before.before.before.before.locate.ensures c.before.before.before.before.before.before.at.given.1 c.before.before.before.before.read-coroutine.ensures c.before.read-header.ensures c.before.before.if1.false)
+overflow_add-p-in-At : tie.Need-overflow_add-p-in-At
+overflow_add-p-in-At c = omega (arith, frame-fits _ c.requires c.locate.ensures c.in-At.is c.read_coroutine-x.ensures c.read_header-h.ensures c.if-x-i.false)
 
-frame-at-requires : tie.Need-frame-at-requires
-frame-at-requires c κs = (frame-fits _ c.before.before.before.before.before.before.before.before.before.before.before.before.before.before.requires c.before.before.before.before.before.before.before.before.locate.ensures c.before.before.before.before.before.before.at.given.1 c.before.before.before.before.read-coroutine.ensures c.before.read-header.ensures c.before.before.if1.false).0
+frame_at-requires : tie.Need-frame_at-requires
+frame_at-requires c κs = (frame-fits _ c.requires c.locate.ensures c.in-At.is c.read_coroutine-x.ensures c.read_header-h.ensures c.if-x-i.false).0
 
-returns-2 : tie.Need-returns-2
+returns-in-Refused : tie.Need-returns-in-Refused
 unfolding terms uncharged frame_seen
-returns-2 c = reads_refused c.before.before.before.before.before.before.before.before.before.requires says_coroutine (Calls.read_frame _ _) c.before.before.before.locate.ensures c.before.q.given.1 (λ l. refl) (λ l. refl)
+returns-in-Refused c = reads_refused c.requires says_coroutine (Calls.read_frame _ _) c.locate.ensures c.in-Refused.is (λ l. refl) (λ l. refl)
 
-returns-3 : tie.Need-returns-3
+returns-else-x-i : tie.Need-returns-else-x-i
 unfolding frame_seen
-returns-3 c = frame-inside _ c.before.before.before.before.before.before.before.before.before.before.before.before.before.before.before.requires c.before.before.before.before.before.before.before.before.before.locate.ensures c.before.before.before.before.before.before.before.at.given.1 c.before.before.before.before.before.read-coroutine.ensures c.before.before.read-header.ensures c.before.before.before.if1.false c.frame_at.ensures
+returns-else-x-i c = frame-inside _ c.requires c.locate.ensures c.in-At.is c.read_coroutine-x.ensures c.read_header-h.ensures c.if-x-i.false c.frame_at.ensures
 
 pub read_frame_spec : {M : Type 1} → statement M
 read_frame_spec =
     tie.close
     (tie.spec
     locate-requires
-    enum-known-q
-    enum-known-at
-    read-coroutine-requires
-    returns
-    read-header-requires
-    add-p
-    mul-p
-    add-p-2
-    frame-at-requires
-    returns-2
-    returns-3)
+    enum_known-q
+    enum_known-at
+    read_coroutine-x-requires
+    returns-then-x-i
+    read_header-h-requires
+    overflow_add-p
+    overflow_mul-p
+    overflow_add-p-in-At
+    frame_at-requires
+    returns-in-Refused
+    returns-else-x-i)

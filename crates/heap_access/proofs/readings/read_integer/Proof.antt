@@ -10,39 +10,40 @@ use Rattle.heap_access.proofs.ReadingLaws.{reads_refused}
 use Rattle.heap_access.proofs.ReadCalls.{integer_read}
 use borrow.Author.Rules.{rules}
 use Rattle.heap_access.proofs.readings.read_integer.Statement.{statement}
+use mir.Syntax.{w64}
 use Rattle.heap_access.proofs.readings.read_integer.Tie as tie
 
 locate-requires : tie.Need-locate-requires
 locate-requires c κs = search rules
 
-enum-known-q : tie.Need-enum-known-q
-enum-known-q c = search rules
+enum_known-q : tie.Need-enum_known-q
+enum_known-q c = search rules
 
-enum-known-i : tie.Need-enum-known-i
-enum-known-i c = search rules
+enum_known-i : tie.Need-enum_known-i
+enum_known-i c = search rules
 
-read-header-requires : tie.Need-read-header-requires
-read-header-requires c κs = located_fits c.before.before.before.before.before.before.before.before.before.requires c.before.before.before.locate.ensures c.before.i.given.1
+read_header-h-requires : tie.Need-read_header-h-requires
+read_header-h-requires c κs = located_fits c.requires c.locate.ensures c.in-At.is
 
-signed-of-requires : tie.Need-signed-of-requires
-signed-of-requires c κs = search rules
+signed_of-requires : tie.Need-signed_of-requires
+signed_of-requires c κs = search rules
 
-returns : tie.Need-returns
+returns-in-Refused : tie.Need-returns-in-Refused
 unfolding terms uncharged signed_is
-returns c = reads_refused c.before.before.before.before.before.before.before.before.before.requires says_integer (Calls.read_integer _) c.before.before.before.locate.ensures c.before.q.given.1 (λ l. refl) (λ l. refl)
+returns-in-Refused c = reads_refused c.requires says_integer (Calls.read_integer _) c.locate.ensures c.in-Refused.is (λ l. refl) (λ l. refl)
 
-returns-2 : tie.Need-returns-2
+returns-in-At : tie.Need-returns-in-At
 unfolding signed_is
-returns-2 c = integer_read c.before.before.before.before.before.before.before.before.before.before.before.requires c.before.before.before.before.before.locate.ensures c.before.before.before.i.given.1 c.before.read-header.ensures (to_z-of_z (record { sfits = c.Signed-of.type-inv }) ∙ c.Signed-of.ensures)
+returns-in-At c = integer_read c.requires c.locate.ensures c.in-At.is c.read_header-h.ensures (to_z-of_z {w = w64} (record { sfits = c.signed_of.type_inv }) ∙ c.signed_of.ensures)
 
 pub read_integer_spec : {M : Type 1} → statement M
 read_integer_spec =
     tie.close
     (tie.spec
     locate-requires
-    enum-known-q
-    enum-known-i
-    read-header-requires
-    signed-of-requires
-    returns
-    returns-2)
+    enum_known-q
+    enum_known-i
+    read_header-h-requires
+    signed_of-requires
+    returns-in-Refused
+    returns-in-At)

@@ -4,11 +4,15 @@ use Rattle.heap_access.proofs.ReadingLaws.{item-words, words-fit}
 use Rattle.heap_access.proofs.readings.read_item.Statement.{statement}
 use Rattle.heap_access.proofs.readings.read_item.Tie as tie
 
-read-word-requires : tie.Need-read-word-requires
-read-word-requires c κs = words-fit c.before.before.before.before.before.requires item-words
+read_word-requires : tie.Need-read_word-requires
+read_word-requires c κs = words-fit c.requires item-words
 
 returns : tie.Need-returns
-returns c = item_read c.before.before.before.before.before.before.requires _ c.read_word.ensures
+returns c = item_read c.requires _ c.read_word.ensures
 
 pub read_item_spec : {M : Type 1} → statement M
-read_item_spec = tie.close (tie.spec read-word-requires returns)
+read_item_spec =
+    tie.close
+    (tie.spec
+    read_word-requires
+    returns)

@@ -5,11 +5,15 @@ use borrow.Author.Rules.{rules}
 use Rattle.heap_access.proofs.readings.read_result.Statement.{statement}
 use Rattle.heap_access.proofs.readings.read_result.Tie as tie
 
-read-scalar-requires : tie.Need-read-scalar-requires
-read-scalar-requires c κs = search rules
+read_scalar-requires : tie.Need-read_scalar-requires
+read_scalar-requires c κs = search rules
 
 returns : tie.Need-returns
-returns c = part_read c.before.before.before.before.before.before.requires result c.read-scalar.ensures
+returns c = part_read c.requires result c.read_scalar.ensures
 
 pub read_result_spec : {M : Type 1} → statement M
-read_result_spec = tie.close (tie.spec read-scalar-requires returns)
+read_result_spec =
+    tie.close
+    (tie.spec
+    read_scalar-requires
+    returns)

@@ -9,40 +9,40 @@ use Rattle.heap_access.proofs.readings.read_scalar.Tie as tie
 locate-requires : tie.Need-locate-requires
 locate-requires c κs = search rules
 
-enum-known-q : tie.Need-enum-known-q
-enum-known-q c = search rules
+enum_known-q : tie.Need-enum_known-q
+enum_known-q c = search rules
 
-enum-known-i : tie.Need-enum-known-i
-enum-known-i c = search rules
+enum_known-i : tie.Need-enum_known-i
+enum_known-i c = search rules
 
-mul-t10 : tie.Need-overflow-mul-t10
-mul-t10 c = omega (arith, (located_here c.before.before.before.locate.ensures c.before.i.given.1).within)
+overflow_mul-result : tie.Need-overflow_mul-result
+overflow_mul-result c = omega (arith, (located_here c.locate.ensures c.in-At.is).within)
 
-add-t11 : tie.Need-overflow-add-t11
-add-t11 c = omega (arith, (located_here c.before.before.before.locate.ensures c.before.i.given.1).within)
+overflow_add-result : tie.Need-overflow_add-result
+overflow_add-result c = omega (arith, (located_here c.locate.ensures c.in-At.is).within)
 
-mul-t12 : tie.Need-overflow-mul-t12
-mul-t12 c = omega (arith, (located_here c.before.before.before.locate.ensures c.before.i.given.1).within)
+offset_bounds-scalars-i : tie.Need-offset_bounds-scalars-i
+offset_bounds-scalars-i c = omega (arith, (located_here c.locate.ensures c.in-At.is).within)
 
-shared-slice-read-t14 : tie.Need-shared-slice-read-t14
-shared-slice-read-t14 c = omega (arith, (located_here c.before.before.before.before.locate.ensures c.before.before.i.given.1).within)
+bounds-scalars-i : tie.Need-bounds-scalars-i
+bounds-scalars-i c = omega (arith, (located_here c.locate.ensures c.in-At.is).within)
 
-returns : tie.Need-returns
-returns c = no_object c.before.before.before.locate.ensures c.before.q.given.1
+returns-in-Refused : tie.Need-returns-in-Refused
+returns-in-Refused c = no_object c.locate.ensures c.in-Refused.is
 
-returns-2 : tie.Need-returns-2
-returns-2 c = object-at c.before.before.before.before.locate.ensures c.before.before.i.given.1 refl
+returns-in-At : tie.Need-returns-in-At
+returns-in-At c = object-at c.locate.ensures c.in-At.is refl
 
 pub read_scalar_spec : {M : Type 1} → statement M
 read_scalar_spec =
     tie.close
     (tie.spec
     locate-requires
-    enum-known-q
-    enum-known-i
-    mul-t10
-    add-t11
-    mul-t12
-    shared-slice-read-t14
-    returns
-    returns-2)
+    enum_known-q
+    enum_known-i
+    overflow_mul-result
+    overflow_add-result
+    offset_bounds-scalars-i
+    bounds-scalars-i
+    returns-in-Refused
+    returns-in-At)

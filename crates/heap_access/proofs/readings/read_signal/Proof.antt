@@ -5,11 +5,15 @@ use borrow.Author.Rules.{rules}
 use Rattle.heap_access.proofs.readings.read_signal.Statement.{statement}
 use Rattle.heap_access.proofs.readings.read_signal.Tie as tie
 
-read-scalar-requires : tie.Need-read-scalar-requires
-read-scalar-requires c κs = search rules
+read_scalar-requires : tie.Need-read_scalar-requires
+read_scalar-requires c κs = search rules
 
 returns : tie.Need-returns
-returns c = part_read c.before.before.before.before.before.before.requires signal c.read-scalar.ensures
+returns c = part_read c.requires signal c.read_scalar.ensures
 
 pub read_signal_spec : {M : Type 1} → statement M
-read_signal_spec = tie.close (tie.spec read-scalar-requires returns)
+read_signal_spec =
+    tie.close
+    (tie.spec
+    read_scalar-requires
+    returns)

@@ -10,22 +10,28 @@ use Rattle.heap_access.proofs.readings.read_size.Tie as tie
 locate-requires : tie.Need-locate-requires
 locate-requires c κs = search rules
 
-enum-known-q : tie.Need-enum-known-q
-enum-known-q c = search rules
+enum_known-q : tie.Need-enum_known-q
+enum_known-q c = search rules
 
-enum-known-i : tie.Need-enum-known-i
-enum-known-i c = search rules
+enum_known-i : tie.Need-enum_known-i
+enum_known-i c = search rules
 
-read-header-requires : tie.Need-read-header-requires
-read-header-requires c κs = located_header c.before.before.before.locate.ensures c.before.i.given.1 c.before.before.before.before.before.requires
+read_header-h-requires : tie.Need-read_header-h-requires
+read_header-h-requires c κs = located_header c.locate.ensures c.in-At.is c.requires
 
-returns : tie.Need-returns
-returns c = no_object c.before.before.before.locate.ensures c.before.q.given.1
+returns-in-Refused : tie.Need-returns-in-Refused
+returns-in-Refused c = no_object c.locate.ensures c.in-Refused.is
 
-returns-2 : tie.Need-returns-2
-returns-2 c = object-at c.before.before.before.before.locate.ensures c.before.before.i.given.1 (ap (λ (h : Header). Read.Is h.size) c.read-header.ensures)
+returns-in-At : tie.Need-returns-in-At
+returns-in-At c = object-at c.locate.ensures c.in-At.is (ap (λ (h : Header). Read.Is h.size) c.read_header-h.ensures)
 
 pub read_size_spec : {M : Type 1} → statement M
 read_size_spec =
     tie.close
-    (tie.spec locate-requires enum-known-q enum-known-i read-header-requires returns returns-2)
+    (tie.spec
+    locate-requires
+    enum_known-q
+    enum_known-i
+    read_header-h-requires
+    returns-in-Refused
+    returns-in-At)

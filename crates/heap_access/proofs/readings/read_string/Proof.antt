@@ -8,40 +8,40 @@ use Rattle.heap_access.proofs.readings.read_string.Tie as tie
 locate-requires : tie.Need-locate-requires
 locate-requires c κs = search rules
 
-enum-known-q : tie.Need-enum-known-q
-enum-known-q c = search rules
+enum_known-q : tie.Need-enum_known-q
+enum_known-q c = search rules
 
-enum-known-i : tie.Need-enum-known-i
-enum-known-i c = search rules
+enum_known-i : tie.Need-enum_known-i
+enum_known-i c = search rules
 
-read-header-requires : tie.Need-read-header-requires
-read-header-requires c κs = located_fits c.before.before.before.before.before.before.before.before.before.before.requires c.before.before.before.locate.ensures c.before.i.given.1
+read_header-h-requires : tie.Need-read_header-h-requires
+read_header-h-requires c κs = located_fits c.requires c.locate.ensures c.in-At.is
 
-returns : tie.Need-returns
-returns c = string-short _ c.before.before.before.before.before.before.before.before.before.before.before.before.before.requires c.before.before.before.before.before.before.locate.ensures c.before.before.before.before.i.given.1 c.before.before.read-header.ensures c.if1.true
+returns-then-buffer-h : tie.Need-returns-then-buffer-h
+returns-then-buffer-h c = string-short _ c.requires c.locate.ensures c.in-At.is c.read_header-h.ensures c.if-buffer-h.true
 
-read-string-requires : tie.Need-read-string-requires
-read-string-requires c κs = ((string-inside c.before.before.before.before.before.before.before.before.before.before.before.before.before.before.requires c.before.before.before.before.before.before.before.locate.ensures c.before.before.before.before.before.i.given.1 c.before.before.before.read-header.ensures).0, (string-inside c.before.before.before.before.before.before.before.before.before.before.before.before.before.before.requires c.before.before.before.before.before.before.before.locate.ensures c.before.before.before.before.before.i.given.1 c.before.before.before.read-header.ensures).1, c.before.if1.false)
+read_string-requires : tie.Need-read_string-requires
+read_string-requires c κs = ((string-inside c.requires c.locate.ensures c.in-At.is c.read_header-h.ensures).0, (string-inside c.requires c.locate.ensures c.in-At.is c.read_header-h.ensures).1, c.if-buffer-h.false)
 
-returns-2 : tie.Need-returns-2
-returns-2 c = string-refused _ c.before.before.before.before.before.before.before.before.before.before.requires c.before.before.before.locate.ensures c.before.q.given.1
+returns-in-Refused : tie.Need-returns-in-Refused
+returns-in-Refused c = string-refused _ c.requires c.locate.ensures c.in-Refused.is
 
-same_length : tie.Need-same-length
-same_length c = search rules
+shape_of-buffer : tie.Need-shape_of-buffer
+shape_of-buffer c = search rules
 
-returns-3 : tie.Need-returns-3
-returns-3 c = string_read _ c.before.before.before.before.before.before.before.before.before.before.before.before.before.before.before.before.before.requires c.before.before.before.before.before.before.before.before.before.before.locate.ensures c.before.before.before.before.before.before.before.before.i.given.1 c.before.before.before.before.before.before.read-header.ensures c.before.before.before.before.if1.false c.before.before.read_string.ensures
+returns-else-buffer-h : tie.Need-returns-else-buffer-h
+returns-else-buffer-h c = string_read _ c.requires c.locate.ensures c.in-At.is c.read_header-h.ensures c.if-buffer-h.false c.read_string.ensures
 
 pub read_string_spec : {M : Type 1} → statement M
 read_string_spec =
     tie.close
     (tie.spec
     locate-requires
-    enum-known-q
-    enum-known-i
-    read-header-requires
-    returns
-    read-string-requires
-    returns-2
-    same_length
-    returns-3)
+    enum_known-q
+    enum_known-i
+    read_header-h-requires
+    returns-then-buffer-h
+    read_string-requires
+    returns-in-Refused
+    shape_of-buffer
+    returns-else-buffer-h)

@@ -9,44 +9,44 @@ use Rattle.heap_access.proofs.readings.read_word.Tie as tie
 locate-requires : tie.Need-locate-requires
 locate-requires c κs = search rules
 
-enum-known-q : tie.Need-enum-known-q
-enum-known-q c = search rules
+enum_known-q : tie.Need-enum_known-q
+enum_known-q c = search rules
 
-enum-known-at : tie.Need-enum-known-at
-enum-known-at c = search rules
+enum_known-at : tie.Need-enum_known-at
+enum_known-at c = search rules
 
-read-header-requires : tie.Need-read-header-requires
-read-header-requires c κs = words-header c.before.before.before.before.before.before.requires c.before.before.before.locate.ensures c.before.at.given.1
+read_header-h-requires : tie.Need-read_header-h-requires
+read_header-h-requires c κs = words-header c.requires c.locate.ensures c.in-At.is
 
-add-p : tie.Need-overflow-add-p
-add-p c = omega (arith, words-place c.before.before.before.before.before.before.before.before.before.before.requires c.before.before.before.before.before.before.before.locate.ensures c.before.before.before.before.before.at.given.1 c.before.before.before.read-header.ensures c.before.if1.true)
+overflow_add-p : tie.Need-overflow_add-p
+overflow_add-p c = omega (arith, words-place c.requires c.locate.ensures c.in-At.is c.read_header-h.ensures c.if-i-h.true)
 
-mul-t15 : tie.Need-overflow-mul-t15
-mul-t15 c = omega (arith, words-place c.before.before.before.before.before.before.before.before.before.before.requires c.before.before.before.before.before.before.before.locate.ensures c.before.before.before.before.before.at.given.1 c.before.before.before.read-header.ensures c.before.if1.true)
+offset_bounds-cells-p : tie.Need-offset_bounds-cells-p
+offset_bounds-cells-p c = omega (arith, words-place c.requires c.locate.ensures c.in-At.is c.read_header-h.ensures c.if-i-h.true)
 
-shared-slice-read-t14 : tie.Need-shared-slice-read-t14
-shared-slice-read-t14 c = omega (arith, words-place c.before.before.before.before.before.before.before.before.before.before.before.requires c.before.before.before.before.before.before.before.before.locate.ensures c.before.before.before.before.before.before.at.given.1 c.before.before.before.before.read-header.ensures c.before.before.if1.true)
+bounds-cells-p : tie.Need-bounds-cells-p
+bounds-cells-p c = omega (arith, words-place c.requires c.locate.ensures c.in-At.is c.read_header-h.ensures c.if-i-h.true)
 
-returns : tie.Need-returns
-returns c = word-inside c.before.before.before.before.before.before.before.before.before.before.before.requires c.before.before.before.before.before.before.before.before.locate.ensures c.before.before.before.before.before.before.at.given.1 c.before.before.before.before.read-header.ensures c.before.before.if1.true refl
+returns-then-i-h : tie.Need-returns-then-i-h
+returns-then-i-h c = word-inside c.requires c.locate.ensures c.in-At.is c.read_header-h.ensures c.if-i-h.true refl
 
-returns-2 : tie.Need-returns-2
-returns-2 c = no_object c.before.before.before.locate.ensures c.before.q.given.1
+returns-in-Refused : tie.Need-returns-in-Refused
+returns-in-Refused c = no_object c.locate.ensures c.in-Refused.is
 
-returns-3 : tie.Need-returns-3
-returns-3 c = word-outside c.before.before.before.before.before.before.before.before.before.requires c.before.before.before.before.before.before.locate.ensures c.before.before.before.before.at.given.1 c.before.before.read-header.ensures c.if1.false
+returns-else-i-h : tie.Need-returns-else-i-h
+returns-else-i-h c = word-outside c.requires c.locate.ensures c.in-At.is c.read_header-h.ensures c.if-i-h.false
 
 pub read_word_spec : {M : Type 1} → statement M
 read_word_spec =
     tie.close
     (tie.spec
     locate-requires
-    enum-known-q
-    enum-known-at
-    read-header-requires
-    add-p
-    mul-t15
-    shared-slice-read-t14
-    returns
-    returns-2
-    returns-3)
+    enum_known-q
+    enum_known-at
+    read_header-h-requires
+    overflow_add-p
+    offset_bounds-cells-p
+    bounds-cells-p
+    returns-then-i-h
+    returns-in-Refused
+    returns-else-i-h)

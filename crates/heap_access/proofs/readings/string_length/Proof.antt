@@ -4,11 +4,15 @@ use borrow.Author.Rules.{rules}
 use Rattle.heap_access.proofs.readings.string_length.Statement.{statement}
 use Rattle.heap_access.proofs.readings.string_length.Tie as tie
 
-read-len-requires : tie.Need-read-len-requires
-read-len-requires c κs = search rules
+read_len-requires : tie.Need-read_len-requires
+read_len-requires c κs = search rules
 
 returns : tie.Need-returns
-returns c = string-length_read c.before.before.before.before.before.before.requires c.read-len.ensures
+returns c = string-length_read c.requires c.read_len.ensures
 
 pub string_length_spec : {M : Type 1} → statement M
-string_length_spec = tie.close (tie.spec read-len-requires returns)
+string_length_spec =
+    tie.close
+    (tie.spec
+    read_len-requires
+    returns)

@@ -6,46 +6,46 @@ use borrow.Author.Rules.{rules}
 use Rattle.heap_access.proofs.stores.set_state.Statement.{statement}
 use Rattle.heap_access.proofs.stores.set_state.Tie as tie
 
-returns : tie.Need-returns
+returns-then-s-gt4 : tie.Need-returns-then-s-gt4
 unfolding done_is
-returns c = state_bad _ c.before.before.before.before.before.before.requires c.if1.true
+returns-then-s-gt4 c = state_bad _ c.requires c.if-s-gt4.true
 
 locate-requires : tie.Need-locate-requires
 locate-requires c κs = search rules
 
-enum-known-q : tie.Need-enum-known-q
-enum-known-q c = search rules
+enum_known-q : tie.Need-enum_known-q
+enum_known-q c = search rules
 
-enum-known-i : tie.Need-enum-known-i
-enum-known-i c = search rules
+enum_known-i : tie.Need-enum_known-i
+enum_known-i c = search rules
 
-set-mode-requires : tie.Need-set-mode-requires
-set-mode-requires c κs = located_fits c.before.before.before.before.before.before.before.before.before.before.before.before.requires c.before.before.before.before.locate.ensures c.before.before.i.given.1
+set_mode-requires : tie.Need-set_mode-requires
+set_mode-requires c κs = located_fits c.requires c.locate.ensures c.in-At.is
 
-same_length : tie.Need-same-length
-same_length c = search rules
+shape_of-slots-in-Refused : tie.Need-shape_of-slots-in-Refused
+shape_of-slots-in-Refused c = search rules
 
-returns-2 : tie.Need-returns-2
+returns-in-Refused : tie.Need-returns-in-Refused
 unfolding done_is
-returns-2 c = state-refused _ c.before.before.before.before.before.before.before.before.before.before.before.requires c.before.before.before.before.before.if1.false c.before.before.before.locate.ensures c.before.q.given.1
+returns-in-Refused c = state-refused _ c.requires c.if-s-gt4.false c.locate.ensures c.in-Refused.is
 
-same-length-2 : tie.Need-same-length-2
-same-length-2 c = search rules
+shape_of-slots-in-At : tie.Need-shape_of-slots-in-At
+shape_of-slots-in-At c = search rules
 
-returns-3 : tie.Need-returns-3
+returns-in-At : tie.Need-returns-in-At
 unfolding done_is
-returns-3 c = state-set _ c.before.before.before.before.before.before.before.before.before.before.before.before.before.before.before.requires c.before.before.before.before.before.before.before.before.before.if1.false c.before.before.before.before.before.before.before.locate.ensures c.before.before.before.before.before.i.given.1 c.before.before.set-mode.ensures
+returns-in-At c = state-set _ c.requires c.if-s-gt4.false c.locate.ensures c.in-At.is c.set_mode.ensures
 
 pub set_state_spec : {M : Type 1} → statement M
 set_state_spec =
     tie.close
     (tie.spec
-    returns
+    returns-then-s-gt4
     locate-requires
-    enum-known-q
-    enum-known-i
-    set-mode-requires
-    same_length
-    returns-2
-    same-length-2
-    returns-3)
+    enum_known-q
+    enum_known-i
+    set_mode-requires
+    shape_of-slots-in-Refused
+    returns-in-Refused
+    shape_of-slots-in-At
+    returns-in-At)

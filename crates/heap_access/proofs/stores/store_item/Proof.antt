@@ -18,60 +18,60 @@ use Rattle.heap_access.proofs.stores.store_item.Tie as tie
 locate-requires : tie.Need-locate-requires
 locate-requires c κs = search rules
 
-enum-known-q : tie.Need-enum-known-q
-enum-known-q c = search rules
+enum_known-q : tie.Need-enum_known-q
+enum_known-q c = search rules
 
-enum-known-at : tie.Need-enum-known-at
-enum-known-at c = search rules
+enum_known-at : tie.Need-enum_known-at
+enum_known-at c = search rules
 
 allows-requires : tie.Need-allows-requires
 allows-requires c κs = search rules
 
-returns : tie.Need-returns
+returns-then-not-allows : tie.Need-returns-then-not-allows
 unfolding done_is
-returns c = item-over _ _ c.before.before.before.before.before.before.before.before.before.before.before.before.requires c.before.before.before.before.before.before.locate.ensures c.before.before.before.before.at.given.1 c.before.allows.ensures (not-true _ c.if1.true)
+returns-then-not-allows c = item-over _ _ c.requires c.locate.ensures c.in-At.is c.allows.ensures (not-true _ c.if-not-allows.true-raw)
 
-read-header-requires : tie.Need-read-header-requires
-read-header-requires c κs = located_fits c.before.before.before.before.before.before.before.before.before.before.before.before.requires c.before.before.before.before.before.before.locate.ensures c.before.before.before.before.at.given.1
+read_header-h-requires : tie.Need-read_header-h-requires
+read_header-h-requires c κs = located_fits c.requires c.locate.ensures c.in-At.is
 
-returns-2 : tie.Need-returns-2
+returns-then-h-i : tie.Need-returns-then-h-i
 unfolding done_is
-returns-2 c = item-outside _ _ c.before.before.before.before.before.before.before.before.before.before.before.before.before.before.before.requires c.before.before.before.before.before.before.before.before.before.locate.ensures c.before.before.before.before.before.before.before.at.given.1 c.before.before.before.before.allows.ensures (not-false _ c.before.before.before.if1.false) (omega (arith, c.before.before.before.before.before.before.before.before.before.before.before.before.before.before.before.well-formed.0)) (omega (arith, c.before.before.before.before.before.before.before.before.before.before.before.before.before.before.before.well-formed.0)) c.before.before.read-header.ensures c.if2.true
+returns-then-h-i c = item-outside _ _ c.requires c.locate.ensures c.in-At.is c.allows.ensures (not-false _ c.if-not-allows.false-raw) (omega (arith, c.well_formed.0)) (omega (arith, c.well_formed.0)) c.read_header-h.ensures c.if-h-i.true
 
-add-p : tie.Need-overflow-add-p
-add-p c = omega (arith, words-place (words-fit c.before.before.before.before.before.before.before.before.before.before.before.before.before.before.before.before.requires item-words) c.before.before.before.before.before.before.before.before.before.before.locate.ensures c.before.before.before.before.before.before.before.before.at.given.1 c.before.before.before.read-header.ensures c.before.if2.false)
+overflow_add-p : tie.Need-overflow_add-p
+overflow_add-p c = omega (arith, words-place (words-fit c.requires item-words) c.locate.ensures c.in-At.is c.read_header-h.ensures c.if-h-i.false)
 
-mul-cells : tie.Need-overflow-mul-cells
-mul-cells c = omega (arith, words-place (words-fit c.before.before.before.before.before.before.before.before.before.before.before.before.before.before.before.before.requires item-words) c.before.before.before.before.before.before.before.before.before.before.locate.ensures c.before.before.before.before.before.before.before.before.at.given.1 c.before.before.before.read-header.ensures c.before.if2.false)
+offset_bounds-cells-p : tie.Need-offset_bounds-cells-p
+offset_bounds-cells-p c = omega (arith, words-place (words-fit c.requires item-words) c.locate.ensures c.in-At.is c.read_header-h.ensures c.if-h-i.false)
 
-slice-write-cells : tie.Need-slice-write-cells
-slice-write-cells c = omega (arith, words-place (words-fit c.before.before.before.before.before.before.before.before.before.before.before.before.before.before.before.before.requires item-words) c.before.before.before.before.before.before.before.before.before.before.locate.ensures c.before.before.before.before.before.before.before.before.at.given.1 c.before.before.before.read-header.ensures c.before.if2.false)
+bounds-cells-p : tie.Need-bounds-cells-p
+bounds-cells-p c = omega (arith, words-place (words-fit c.requires item-words) c.locate.ensures c.in-At.is c.read_header-h.ensures c.if-h-i.false)
 
-returns-3 : tie.Need-returns-3
+returns-in-Refused : tie.Need-returns-in-Refused
 unfolding done_is terms charging
-returns-3 c = λ l. object-refused l c.before.before.before.before.before.before.before.before.before.requires (Calls.store_item _ _ _) c.before.before.before.locate.ensures c.before.q.given.1 says_array refl refl
+returns-in-Refused c = λ l. object-refused l c.requires (Calls.store_item _ _ _) c.locate.ensures c.in-Refused.is says_array refl refl
 
-same_length : tie.Need-same-length
-same_length c = search rules
+shape_of-cells : tie.Need-shape_of-cells
+shape_of-cells c = search rules
 
-returns-4 : tie.Need-returns-4
+returns-else-h-i : tie.Need-returns-else-h-i
 unfolding done_is
-returns-4 c = item_stored _ _ c.before.before.before.before.before.before.before.before.before.before.before.before.before.before.before.before.requires c.before.before.before.before.before.before.before.before.before.before.locate.ensures c.before.before.before.before.before.before.before.before.at.given.1 c.before.before.before.before.before.allows.ensures (not-false _ c.before.before.before.before.if1.false) (omega (arith, c.before.before.before.before.before.before.before.before.before.before.before.before.before.before.before.before.well-formed.0)) (omega (arith, c.before.before.before.before.before.before.before.before.before.before.before.before.before.before.before.before.well-formed.0)) c.before.before.before.read-header.ensures c.before.if2.false
+returns-else-h-i c = item_stored _ _ c.requires c.locate.ensures c.in-At.is c.allows.ensures (not-false _ c.if-not-allows.false-raw) (omega (arith, c.well_formed.0)) (omega (arith, c.well_formed.0)) c.read_header-h.ensures c.if-h-i.false
 
 pub store_item_spec : {M : Type 1} → statement M
 store_item_spec =
     tie.close
     (tie.spec
     locate-requires
-    enum-known-q
-    enum-known-at
+    enum_known-q
+    enum_known-at
     allows-requires
-    returns
-    read-header-requires
-    returns-2
-    add-p
-    mul-cells
-    slice-write-cells
-    returns-3
-    same_length
-    returns-4)
+    returns-then-not-allows
+    read_header-h-requires
+    returns-then-h-i
+    overflow_add-p
+    offset_bounds-cells-p
+    bounds-cells-p
+    returns-in-Refused
+    shape_of-cells
+    returns-else-h-i)

@@ -5,14 +5,19 @@ use borrow.Author.Rules.{rules}
 use Rattle.heap_access.proofs.stores.store_register.Statement.{statement}
 use Rattle.heap_access.proofs.stores.store_register.Tie as tie
 
-store-word-requires : tie.Need-store-word-requires
-store-word-requires c κs = words-fit c.before.before.before.before.before.before.requires register-words
+store_word-requires : tie.Need-store_word-requires
+store_word-requires c κs = words-fit c.requires register-words
 
-same_length : tie.Need-same-length
-same_length c = search rules
+shape_of-cells : tie.Need-shape_of-cells
+shape_of-cells c = search rules
 
 returns : tie.Need-returns
-returns c = register-store _ _ c.before.before.before.before.before.before.before.before.before.requires c.before.before.Store-word.ensures
+returns c = register-store _ _ c.requires c.store_word.ensures
 
 pub store_register_spec : {M : Type 1} → statement M
-store_register_spec = tie.close (tie.spec store-word-requires same_length returns)
+store_register_spec =
+    tie.close
+    (tie.spec
+    store_word-requires
+    shape_of-cells
+    returns)

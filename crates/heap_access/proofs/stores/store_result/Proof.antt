@@ -5,14 +5,19 @@ use borrow.Author.Rules.{rules}
 use Rattle.heap_access.proofs.stores.store_result.Statement.{statement}
 use Rattle.heap_access.proofs.stores.store_result.Tie as tie
 
-store-scalar-requires : tie.Need-store-scalar-requires
-store-scalar-requires c κs = search rules
+store_scalar-requires : tie.Need-store_scalar-requires
+store_scalar-requires c κs = search rules
 
-same_length : tie.Need-same-length
-same_length c = search rules
+shape_of-scalars : tie.Need-shape_of-scalars
+shape_of-scalars c = search rules
 
 returns : tie.Need-returns
-returns c = part-store c.before.before.before.before.before.before.before.before.before.requires result c.before.before.store_scalar.ensures
+returns c = part-store c.requires result c.store_scalar.ensures
 
 pub store_result_spec : {M : Type 1} → statement M
-store_result_spec = tie.close (tie.spec store-scalar-requires same_length returns)
+store_result_spec =
+    tie.close
+    (tie.spec
+    store_scalar-requires
+    shape_of-scalars
+    returns)

@@ -9,44 +9,44 @@ use Rattle.heap_access.proofs.stores.store_scalar.Tie as tie
 locate-requires : tie.Need-locate-requires
 locate-requires c κs = search rules
 
-enum-known-q : tie.Need-enum-known-q
-enum-known-q c = search rules
+enum_known-q : tie.Need-enum_known-q
+enum_known-q c = search rules
 
-enum-known-i : tie.Need-enum-known-i
-enum-known-i c = search rules
+enum_known-i : tie.Need-enum_known-i
+enum_known-i c = search rules
 
-mul-scalars : tie.Need-overflow-mul-scalars
-mul-scalars c = omega (arith, (located_here c.before.before.before.locate.ensures c.before.i.given.1).within)
+overflow_mul-scalars : tie.Need-overflow_mul-scalars
+overflow_mul-scalars c = omega (arith, (located_here c.locate.ensures c.in-At.is).within)
 
-add-scalars : tie.Need-overflow-add-scalars
-add-scalars c = omega (arith, (located_here c.before.before.before.locate.ensures c.before.i.given.1).within)
+overflow_add-scalars : tie.Need-overflow_add-scalars
+overflow_add-scalars c = omega (arith, (located_here c.locate.ensures c.in-At.is).within)
 
-mul-scalars-2 : tie.Need-overflow-mul-scalars-2
-mul-scalars-2 c = omega (arith, (located_here c.before.before.before.locate.ensures c.before.i.given.1).within)
+offset_bounds-scalars-i : tie.Need-offset_bounds-scalars-i
+offset_bounds-scalars-i c = omega (arith, (located_here c.locate.ensures c.in-At.is).within)
 
-slice-write-scalars : tie.Need-slice-write-scalars
-slice-write-scalars c = omega (arith, (located_here c.before.before.before.locate.ensures c.before.i.given.1).within)
+bounds-scalars-i : tie.Need-bounds-scalars-i
+bounds-scalars-i c = omega (arith, (located_here c.locate.ensures c.in-At.is).within)
 
-returns : tie.Need-returns
-returns c = no_object c.before.before.before.locate.ensures c.before.q.given.1
+returns-in-Refused : tie.Need-returns-in-Refused
+returns-in-Refused c = no_object c.locate.ensures c.in-Refused.is
 
-same_length : tie.Need-same-length
-same_length c = search rules
+shape_of-scalars : tie.Need-shape_of-scalars
+shape_of-scalars c = search rules
 
-returns-2 : tie.Need-returns-2
-returns-2 c = object-at c.before.before.before.locate.ensures c.before.i.given.1 refl
+returns-in-At : tie.Need-returns-in-At
+returns-in-At c = object-at c.locate.ensures c.in-At.is refl
 
 pub store_scalar_spec : {M : Type 1} → statement M
 store_scalar_spec =
     tie.close
     (tie.spec
     locate-requires
-    enum-known-q
-    enum-known-i
-    mul-scalars
-    add-scalars
-    mul-scalars-2
-    slice-write-scalars
-    returns
-    same_length
-    returns-2)
+    enum_known-q
+    enum_known-i
+    overflow_mul-scalars
+    overflow_add-scalars
+    offset_bounds-scalars-i
+    bounds-scalars-i
+    returns-in-Refused
+    shape_of-scalars
+    returns-in-At)

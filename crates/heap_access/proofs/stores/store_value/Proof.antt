@@ -10,36 +10,36 @@ use Rattle.heap_access.proofs.stores.store_value.Tie as tie
 locate-requires : tie.Need-locate-requires
 locate-requires c κs = search rules
 
-enum-known-q : tie.Need-enum-known-q
-enum-known-q c = search rules
+enum_known-q : tie.Need-enum_known-q
+enum_known-q c = search rules
 
-enum-known-i : tie.Need-enum-known-i
-enum-known-i c = search rules
+enum_known-i : tie.Need-enum_known-i
+enum_known-i c = search rules
 
-set-value-requires : tie.Need-set-value-requires
-set-value-requires c κs = located_header c.before.before.before.before.locate.ensures c.before.before.i.given.1 c.before.before.before.before.before.before.before.requires
+set_value-requires : tie.Need-set_value-requires
+set_value-requires c κs = located_header c.locate.ensures c.in-At.is c.requires
 
-same_length : tie.Need-same-length
-same_length c = search rules
+shape_of-slots-in-Refused : tie.Need-shape_of-slots-in-Refused
+shape_of-slots-in-Refused c = search rules
 
-returns : tie.Need-returns
-returns c = no_object c.before.before.before.locate.ensures c.before.q.given.1
+returns-in-Refused : tie.Need-returns-in-Refused
+returns-in-Refused c = no_object c.locate.ensures c.in-Refused.is
 
-same-length-2 : tie.Need-same-length-2
-same-length-2 c = search rules
+shape_of-slots-in-At : tie.Need-shape_of-slots-in-At
+shape_of-slots-in-At c = search rules
 
-returns-2 : tie.Need-returns-2
-returns-2 c = object-at c.before.before.before.before.before.before.before.locate.ensures c.before.before.before.before.before.i.given.1 (ap (write Do.Accepted) c.before.before.set_value.ensures)
+returns-in-At : tie.Need-returns-in-At
+returns-in-At c = object-at c.locate.ensures c.in-At.is (ap (write Do.Accepted) c.set_value.ensures)
 
 pub store_value_spec : {M : Type 1} → statement M
 store_value_spec =
     tie.close
     (tie.spec
     locate-requires
-    enum-known-q
-    enum-known-i
-    set-value-requires
-    same_length
-    returns
-    same-length-2
-    returns-2)
+    enum_known-q
+    enum_known-i
+    set_value-requires
+    shape_of-slots-in-Refused
+    returns-in-Refused
+    shape_of-slots-in-At
+    returns-in-At)

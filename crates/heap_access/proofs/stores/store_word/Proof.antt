@@ -8,48 +8,48 @@ use Rattle.heap_access.proofs.stores.store_word.Tie as tie
 locate-requires : tie.Need-locate-requires
 locate-requires c κs = search rules
 
-enum-known-q : tie.Need-enum-known-q
-enum-known-q c = search rules
+enum_known-q : tie.Need-enum_known-q
+enum_known-q c = search rules
 
-enum-known-at : tie.Need-enum-known-at
-enum-known-at c = search rules
+enum_known-at : tie.Need-enum_known-at
+enum_known-at c = search rules
 
-read-header-requires : tie.Need-read-header-requires
-read-header-requires c κs = words-header c.before.before.before.before.before.before.requires c.before.before.before.locate.ensures c.before.at.given.1
+read_header-h-requires : tie.Need-read_header-h-requires
+read_header-h-requires c κs = words-header c.requires c.locate.ensures c.in-At.is
 
-returns : tie.Need-returns
-returns c = word_kept c.before.before.before.before.before.before.before.before.before.requires c.before.before.before.before.before.before.locate.ensures _ c.before.before.before.before.at.given.1 c.before.before.read-header.ensures c.if1.true
+returns-then-h-i : tie.Need-returns-then-h-i
+returns-then-h-i c = word_kept c.requires c.locate.ensures _ c.in-At.is c.read_header-h.ensures c.if-h-i.true
 
-add-p : tie.Need-overflow-add-p
-add-p c = omega (arith, words-place c.before.before.before.before.before.before.before.before.before.before.requires c.before.before.before.before.before.before.before.locate.ensures c.before.before.before.before.before.at.given.1 c.before.before.before.read-header.ensures c.before.if1.false)
+overflow_add-p : tie.Need-overflow_add-p
+overflow_add-p c = omega (arith, words-place c.requires c.locate.ensures c.in-At.is c.read_header-h.ensures c.if-h-i.false)
 
-mul-cells : tie.Need-overflow-mul-cells
-mul-cells c = omega (arith, words-place c.before.before.before.before.before.before.before.before.before.before.requires c.before.before.before.before.before.before.before.locate.ensures c.before.before.before.before.before.at.given.1 c.before.before.before.read-header.ensures c.before.if1.false)
+offset_bounds-cells-p : tie.Need-offset_bounds-cells-p
+offset_bounds-cells-p c = omega (arith, words-place c.requires c.locate.ensures c.in-At.is c.read_header-h.ensures c.if-h-i.false)
 
-slice-write-cells : tie.Need-slice-write-cells
-slice-write-cells c = omega (arith, words-place c.before.before.before.before.before.before.before.before.before.before.requires c.before.before.before.before.before.before.before.locate.ensures c.before.before.before.before.before.at.given.1 c.before.before.before.read-header.ensures c.before.if1.false)
+bounds-cells-p : tie.Need-bounds-cells-p
+bounds-cells-p c = omega (arith, words-place c.requires c.locate.ensures c.in-At.is c.read_header-h.ensures c.if-h-i.false)
 
-returns-2 : tie.Need-returns-2
-returns-2 c = no_object c.before.before.before.locate.ensures c.before.q.given.1
+returns-in-Refused : tie.Need-returns-in-Refused
+returns-in-Refused c = no_object c.locate.ensures c.in-Refused.is
 
-same_length : tie.Need-same-length
-same_length c = search rules
+shape_of-cells : tie.Need-shape_of-cells
+shape_of-cells c = search rules
 
-returns-3 : tie.Need-returns-3
-returns-3 c = word_stored c.before.before.before.before.before.before.before.before.before.before.requires c.before.before.before.before.before.before.before.locate.ensures _ c.before.before.before.before.before.at.given.1 c.before.before.before.read-header.ensures c.before.if1.false
+returns-else-h-i : tie.Need-returns-else-h-i
+returns-else-h-i c = word_stored c.requires c.locate.ensures _ c.in-At.is c.read_header-h.ensures c.if-h-i.false
 
 pub store_word_spec : {M : Type 1} → statement M
 store_word_spec =
     tie.close
     (tie.spec
     locate-requires
-    enum-known-q
-    enum-known-at
-    read-header-requires
-    returns
-    add-p
-    mul-cells
-    slice-write-cells
-    returns-2
-    same_length
-    returns-3)
+    enum_known-q
+    enum_known-at
+    read_header-h-requires
+    returns-then-h-i
+    overflow_add-p
+    offset_bounds-cells-p
+    bounds-cells-p
+    returns-in-Refused
+    shape_of-cells
+    returns-else-h-i)

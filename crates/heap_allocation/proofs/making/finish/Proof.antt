@@ -4,55 +4,55 @@ use borrow.Author.Rules.{rules}
 use Rattle.heap_allocation.proofs.making.finish.Statement.{statement}
 use Rattle.heap_allocation.proofs.making.finish.Tie as tie
 
-place-plain-requires : tie.Need-place-plain-requires
-place-plain-requires c κs =
-    let at-then : tie.Then1 = search in
+place_plain-requires : tie.Need-place_plain-requires
+place_plain-requires c κs =
+    let at-then : tie.Then-header-eq0 = search in
     let start : tie.Start = search in
-    let y = start.pre.0 in
-    (y.good, rw at-then.if1.taken at y.judged, object-empty _ at-then.if1.taken start.pre.1)
+    let y = start.requires.0 in
+    (y.good, rw at-then.if-header-eq0.true at y.judged, object-empty _ at-then.if-header-eq0.true start.requires.1)
 
-same_length : tie.Need-same-length
-same_length c = search rules
+shape_of-slots-then-header-eq0 : tie.Need-shape_of-slots-then-header-eq0
+shape_of-slots-then-header-eq0 c = search rules
 
-same-length-2 : tie.Need-same-length-2
-same-length-2 c = search rules
+shape_of-directory-then-header-eq0 : tie.Need-shape_of-directory-then-header-eq0
+shape_of-directory-then-header-eq0 c = search rules
+
+returns-then-header-eq0 : tie.Need-returns-then-header-eq0
+returns-then-header-eq0 c =
+    let at_place : tie.After-place_plain = search in
+    let at-then : tie.Then-header-eq0 = search in
+    let start : tie.Start = search in
+    finished_plain start.args.header start.requires.0 at-then.if-header-eq0.true at_place.place_plain.ensures
+
+place_region-requires : tie.Need-place_region-requires
+place_region-requires c κs =
+    let at-else : tie.Else-header-eq0 = search in
+    let start : tie.Start = search in
+    let y = start.requires.0 in
+    (y.good, y.judged, y.region, y.entry at-else.if-header-eq0.false, start.requires.1)
+
+shape_of-slots : tie.Need-shape_of-slots
+shape_of-slots c = search rules
+
+shape_of-directory : tie.Need-shape_of-directory
+shape_of-directory c = search rules
 
 returns : tie.Need-returns
 returns c =
-    let at_place : tie.After-place-plain = search in
-    let at-then : tie.Then1 = search in
+    let at_place : tie.After-place_region = search in
+    let at-else : tie.Else-header-eq0 = search in
     let start : tie.Start = search in
-    finished_plain start.args.header start.pre.0 at-then.if1.taken at_place.place-plain.ensures
-
-place-region-requires : tie.Need-place-region-requires
-place-region-requires c κs =
-    let at-else : tie.Else1 = search in
-    let start : tie.Start = search in
-    let y = start.pre.0 in
-    (y.good, y.judged, y.region, y.entry at-else.if1.left, start.pre.1)
-
-same-length-3 : tie.Need-same-length-3
-same-length-3 c = search rules
-
-same-length-4 : tie.Need-same-length-4
-same-length-4 c = search rules
-
-returns-2 : tie.Need-returns-2
-returns-2 c =
-    let at_place : tie.After-place-region = search in
-    let at-else : tie.Else1 = search in
-    let start : tie.Start = search in
-    finished_region start.args.header start.pre.0 at-else.if1.left at_place.place-region.ensures
+    finished_region start.args.header start.requires.0 at-else.if-header-eq0.false at_place.place_region.ensures
 
 pub finish_spec : {M : Type 1} → statement M
 finish_spec =
     tie.close
     (tie.spec
-    place-plain-requires
-    same_length
-    same-length-2
-    returns
-    place-region-requires
-    same-length-3
-    same-length-4
-    returns-2)
+    place_plain-requires
+    shape_of-slots-then-header-eq0
+    shape_of-directory-then-header-eq0
+    returns-then-header-eq0
+    place_region-requires
+    shape_of-slots
+    shape_of-directory
+    returns)

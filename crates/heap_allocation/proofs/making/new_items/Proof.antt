@@ -9,78 +9,78 @@ use borrow.Author.Rules.{rules}
 use Rattle.heap_allocation.proofs.making.new_items.Statement.{statement}
 use Rattle.heap_allocation.proofs.making.new_items.Tie as tie
 
-word-bytes-requires : tie.Need-word-bytes-requires
-word-bytes-requires c κs = search rules
+word_bytes-bytes-requires : tie.Need-word_bytes-bytes-requires
+word_bytes-bytes-requires c κs = search rules
 
-prepare-requires : tie.Need-prepare-requires
-prepare-requires c κs = search rules
+prepare-p-requires : tie.Need-prepare-p-requires
+prepare-p-requires c κs = search rules
 
-enum-known-done : tie.Need-enum-known-done
-enum-known-done c = search rules
+enum_known-done : tie.Need-enum_known-done
+enum_known-done c = search rules
 
-enum_told : tie.Need-enum-told
-enum_told c = search rules
+enum_told-1 : tie.Need-enum_told-1
+enum_told-1 c = search rules
 
 fill-requires : tie.Need-fill-requires
-fill-requires c κs = ((c.before.before.before.before.before.before.before.before.before.before.prepare.ensures.accepted c.before.enum_told.given.1).placeable.region, (c.before.before.before.before.before.before.before.before.before.before.prepare.ensures.accepted c.before.enum_told.given.1).placeable.good.laid.cells_max)
+fill-requires c κs = ((c.prepare-p.ensures.accepted c.in-Accepted.is).placeable.region, (c.prepare-p.ensures.accepted c.in-Accepted.is).placeable.good.laid.cells_max)
 
-fresh-header-requires : tie.Need-fresh-header-requires
-fresh-header-requires c κs = search rules
+fresh_header-h-requires : tie.Need-fresh_header-h-requires
+fresh_header-h-requires c κs = search rules
 
 finish-requires : tie.Need-finish-requires
 finish-requires c κs =
-    let at-fresh-header : tie.After-fresh-header = search in
+    let at-fresh-header : tie.After-fresh_header-h = search in
     let at_fill : tie.After-fill = search in
-    let at_told : tie.After-enum-told = search in
-    let at-prepare : tie.After-prepare = search in
-    let at-bytes : tie.After-word-bytes = search in
-    let on-entry : tie.After-slice-known2 = search in
+    let at_told : tie.In-Accepted = search in
+    let at-prepare : tie.After-prepare-p = search in
+    let at-bytes : tie.After-word_bytes-bytes = search in
+    let on-entry : tie.After-slice_known-2-1 = search in
     let start : tie.Start = search in
-    let y = at-prepare.prepare.ensures.accepted at_told.enum_told.given.1 in
-    rw at-fresh-header.fresh-header.ensures
+    let y = at-prepare.prepare-p.ensures.accepted at_told.in-Accepted.is in
+    rw at-fresh-header.fresh_header-h.ensures
     (region-ready y (above_filled at_fill.fill.ensures) (filled-region at_fill.fill.ensures y.placeable.region)
     (words-object 6 0 start.args.t start.args.n _ (omega arith) (omega arith) (λ z. absurd (omega (arith, z)))))
 
-same_length : tie.Need-same-length
-same_length c = search rules
+shape_of-slots-in-Refused : tie.Need-shape_of-slots-in-Refused
+shape_of-slots-in-Refused c = search rules
 
-same-length-2 : tie.Need-same-length-2
-same-length-2 c = search rules
+shape_of-directory-in-Refused : tie.Need-shape_of-directory-in-Refused
+shape_of-directory-in-Refused c = search rules
 
-same-length-3 : tie.Need-same-length-3
-same-length-3 c = search rules
+shape_of-cells-in-Refused : tie.Need-shape_of-cells-in-Refused
+shape_of-cells-in-Refused c = search rules
 
-returns : tie.Need-returns
-returns c = words-refused c.before.before.before.before.before.before.before.before.before.before.prepare.ensures 6 0 c.before.before.before.before.before.before.before.before.before.before.before.before.before.before.before.before.before.before.before.before.before.args.t (replicate c.before.before.before.before.before.before.before.before.before.before.before.before.before.before.before.before.before.before.before.before.before.args.n 0) c.before.done.given.1 c.before.before.before.before.before.before.before.before.before.before.before.before.before.before.word_Bytes.ensures
+returns-in-Refused : tie.Need-returns-in-Refused
+returns-in-Refused c = words-refused c.prepare-p.ensures 6 0 c.args.t (replicate c.args.n 0) c.in-Refused.is c.word_bytes-bytes.ensures
 
-same-length-4 : tie.Need-same-length-4
-same-length-4 c = c.before.before.before.slots2.given ∙ c.before.before.before.before.before.before.before.before.before.before.before.before.before.before.before.before.before.before.before.before.before.slots.given
+shape_of-slots-in-Accepted : tie.Need-shape_of-slots-in-Accepted
+shape_of-slots-in-Accepted c = c.slots-in-Accepted-1.given ∙ c.slots-1.given
 
-same-length-5 : tie.Need-same-length-5
-same-length-5 c = c.before.directory2.given ∙ c.before.before.before.before.before.before.before.before.before.before.before.before.before.before.before.before.before.before.before.directory.given
+shape_of-directory-in-Accepted : tie.Need-shape_of-directory-in-Accepted
+shape_of-directory-in-Accepted c = c.directory-in-Accepted-1.given ∙ c.directory-1.given
 
-same-length-6 : tie.Need-same-length-6
-same-length-6 c = c.before.before.before.before.before.before.before.before.before.before.cells2.given ∙ c.before.before.before.before.before.before.before.before.before.before.before.before.before.before.before.before.before.cells.given
+shape_of-cells-in-Accepted : tie.Need-shape_of-cells-in-Accepted
+shape_of-cells-in-Accepted c = c.cells-in-Accepted-1.given ∙ c.cells-1.given
 
-returns-2 : tie.Need-returns-2
-returns-2 c = words-made c.before.before.before.before.before.before.before.before.before.before.before.before.before.before.before.before.before.before.before.before.before.before.prepare.ensures 6 0 c.before.before.before.before.before.before.before.before.before.before.before.before.before.before.before.before.before.before.before.before.before.before.before.before.before.before.before.before.before.before.before.before.before.args.t c.before.before.before.before.before.before.before.before.before.before.before.before.before.enum_told.given.1 (above_filled c.before.before.before.before.before.before.before.before.before.before.before.fill.ensures) (filled-region c.before.before.before.before.before.before.before.before.before.before.before.fill.ensures (c.before.before.before.before.before.before.before.before.before.before.before.before.before.before.before.before.before.before.before.before.before.before.prepare.ensures.accepted c.before.before.before.before.before.before.before.before.before.before.before.before.before.enum_told.given.1).placeable.region) c.before.before.before.before.before.before.before.before.fresh-header.ensures c.before.before.before.before.before.before.before.before.before.before.before.before.before.before.before.before.before.before.before.before.before.before.before.before.before.before.word_Bytes.ensures c.before.before.before.before.finish.ensures
+returns-in-Accepted : tie.Need-returns-in-Accepted
+returns-in-Accepted c = words-made c.prepare-p.ensures 6 0 c.args.t c.in-Accepted.is (above_filled c.fill.ensures) (filled-region c.fill.ensures (c.prepare-p.ensures.accepted c.in-Accepted.is).placeable.region) c.fresh_header-h.ensures c.word_bytes-bytes.ensures c.finish.ensures
 
 pub new_items_spec : {M : Type 1} → statement M
 new_items_spec =
     tie.close
     (tie.spec
-    word-bytes-requires
-    prepare-requires
-    enum-known-done
-    enum_told
+    word_bytes-bytes-requires
+    prepare-p-requires
+    enum_known-done
+    enum_told-1
     fill-requires
-    fresh-header-requires
+    fresh_header-h-requires
     finish-requires
-    same_length
-    same-length-2
-    same-length-3
-    returns
-    same-length-4
-    same-length-5
-    same-length-6
-    returns-2)
+    shape_of-slots-in-Refused
+    shape_of-directory-in-Refused
+    shape_of-cells-in-Refused
+    returns-in-Refused
+    shape_of-slots-in-Accepted
+    shape_of-directory-in-Accepted
+    shape_of-cells-in-Accepted
+    returns-in-Accepted)

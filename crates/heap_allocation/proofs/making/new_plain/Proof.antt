@@ -5,43 +5,43 @@ use borrow.Author.Rules.{rules}
 use Rattle.heap_allocation.proofs.making.new_plain.Statement.{statement}
 use Rattle.heap_allocation.proofs.making.new_plain.Tie as tie
 
-judge-new-requires : tie.Need-judge-new-requires
-judge-new-requires c κs = search rules
+judge_new-requires : tie.Need-judge_new-requires
+judge_new-requires c κs = search rules
 
-enum-known-q : tie.Need-enum-known-q
-enum-known-q c = search rules
+enum_known-q : tie.Need-enum_known-q
+enum_known-q c = search rules
 
-enum_told : tie.Need-enum-told
-enum_told c = search rules
+enum_told-1 : tie.Need-enum_told-1
+enum_told-1 c = search rules
 
-place-plain-requires : tie.Need-place-plain-requires
-place-plain-requires c κs =
-    let at_told : tie.After-enum-told = search in
-    let at-judge : tie.After-judge-new = search in
+place_plain-requires : tie.Need-place_plain-requires
+place_plain-requires c κs =
+    let at_told : tie.In-Accepted = search in
+    let at-judge : tie.After-judge_new = search in
     let start : tie.Start = search in
-    (start.pre.0, sym at-judge.judge-new.ensures ∙ at_told.enum_told.given.1, start.pre.1 _)
+    (start.requires.0, sym at-judge.judge_new.ensures ∙ at_told.in-Accepted.is, start.requires.1 _)
 
-returns : tie.Need-returns
-returns c =
-    let at-q : tie.After-q = search in
-    let at-judge : tie.After-judge-new = search in
+returns-in-Refused : tie.Need-returns-in-Refused
+returns-in-Refused c =
+    let at-q : tie.In-Refused = search in
+    let at-judge : tie.After-judge_new = search in
     let start : tie.Start = search in
-    plain_refused start.pre.0 at-judge.judge-new.ensures at-q.q.given.1
+    plain_refused start.requires.0 at-judge.judge_new.ensures at-q.in-Refused.is
 
-same_length : tie.Need-same-length
-same_length c = search rules
+shape_of-slots : tie.Need-shape_of-slots
+shape_of-slots c = search rules
 
-returns-2 : tie.Need-returns-2
-returns-2 c = plain_accepted c.before.before.before.before.before.before.judge-new.ensures c.before.before.before.before.enum_told.given.1 c.before.before.place-plain.ensures
+returns-in-Accepted : tie.Need-returns-in-Accepted
+returns-in-Accepted c = plain_accepted c.judge_new.ensures c.in-Accepted.is c.place_plain.ensures
 
 pub new_plain_spec : {M : Type 1} → statement M
 new_plain_spec =
     tie.close
     (tie.spec
-    judge-new-requires
-    enum-known-q
-    enum_told
-    place-plain-requires
-    returns
-    same_length
-    returns-2)
+    judge_new-requires
+    enum_known-q
+    enum_told-1
+    place_plain-requires
+    returns-in-Refused
+    shape_of-slots
+    returns-in-Accepted)

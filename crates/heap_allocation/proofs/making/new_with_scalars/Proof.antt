@@ -5,65 +5,65 @@ use borrow.Author.Rules.{rules}
 use Rattle.heap_allocation.proofs.making.new_with_scalars.Statement.{statement}
 use Rattle.heap_allocation.proofs.making.new_with_scalars.Tie as tie
 
-judge-new-requires : tie.Need-judge-new-requires
-judge-new-requires c κs = search rules
+judge_new-requires : tie.Need-judge_new-requires
+judge_new-requires c κs = search rules
 
-enum-known-q : tie.Need-enum-known-q
-enum-known-q c = search rules
+enum_known-q : tie.Need-enum_known-q
+enum_known-q c = search rules
 
-enum_told : tie.Need-enum-told
-enum_told c = search rules
+enum_told-1 : tie.Need-enum_told-1
+enum_told-1 c = search rules
 
-next-slot-requires : tie.Need-next-slot-requires
-next-slot-requires c κs = search rules
+next_slot-i-requires : tie.Need-next_slot-i-requires
+next_slot-i-requires c κs = search rules
 
-write-scalars-requires : tie.Need-write-scalars-requires
-write-scalars-requires c κs =
-    let at_next : tie.After-next-slot = search in
-    let at_told : tie.After-enum-told = search in
-    let at-judge : tie.After-judge-new = search in
+write_scalars-requires : tie.Need-write_scalars-requires
+write_scalars-requires c κs =
+    let at_next : tie.After-next_slot-i = search in
+    let at_told : tie.In-Accepted = search in
+    let at-judge : tie.After-judge_new = search in
     let start : tie.Start = search in
-    rw at_next.next-slot.ensures (next_fits (ready_self start.pre.0 (sym at-judge.judge-new.ensures ∙ at_told.enum_told.given.1)).placeable)
+    rw at_next.next_slot-i.ensures (next_fits (ready_self start.requires.0 (sym at-judge.judge_new.ensures ∙ at_told.in-Accepted.is)).placeable)
 
-place-plain-requires : tie.Need-place-plain-requires
-place-plain-requires c κs =
-    let at-write : tie.After-write-scalars = search in
-    let at_next : tie.After-next-slot = search in
-    let at_told : tie.After-enum-told = search in
-    let at-judge : tie.After-judge-new = search in
+place_plain-requires : tie.Need-place_plain-requires
+place_plain-requires c κs =
+    let at-write : tie.After-write_scalars = search in
+    let at_next : tie.After-next_slot-i = search in
+    let at_told : tie.In-Accepted = search in
+    let at-judge : tie.After-judge_new = search in
     let start : tie.Start = search in
-    let judged = sym at-judge.judge-new.ensures ∙ at_told.enum_told.given.1 in
-    let y = (ready_self start.pre.0 judged).placeable in
+    let judged = sym at-judge.judge_new.ensures ∙ at_told.in-Accepted.is in
+    let y = (ready_self start.requires.0 judged).placeable in
     let more = start.args.more in
-    rw (at-write.write-scalars.ensures, at_next.next-slot.ensures) ((placeable-scalars y more).good, judged, rw (next_more y more) start.pre.1)
+    rw (at-write.write_scalars.ensures, at_next.next_slot-i.ensures) ((placeable-scalars y more).good, judged, rw (next_more y more) start.requires.1)
 
-returns : tie.Need-returns
-returns c =
-    let at-q : tie.After-q = search in
-    let at-judge : tie.After-judge-new = search in
+returns-in-Refused : tie.Need-returns-in-Refused
+returns-in-Refused c =
+    let at-q : tie.In-Refused = search in
+    let at-judge : tie.After-judge_new = search in
     let start : tie.Start = search in
-    plain_refused start.pre.0 at-judge.judge-new.ensures at-q.q.given.1
+    plain_refused start.requires.0 at-judge.judge_new.ensures at-q.in-Refused.is
 
-same_length : tie.Need-same-length
-same_length c = search rules
+shape_of-slots : tie.Need-shape_of-slots
+shape_of-slots c = search rules
 
-same-length-2 : tie.Need-same-length-2
-same-length-2 c = search rules
+shape_of-scalars : tie.Need-shape_of-scalars
+shape_of-scalars c = search rules
 
-returns-2 : tie.Need-returns-2
-returns-2 c = plain_after c.before.before.before.before.before.before.before.before.before.before.before.before.before.before.before.before.before.before.args.more c.before.before.before.before.before.before.before.before.before.before.before.before.judge-new.ensures c.before.before.before.before.before.before.before.before.before.before.enum_told.given.1 c.before.before.before.before.before.before.before.before.before.next-slot.ensures c.before.before.before.before.before.before.before.write-scalars.ensures c.before.before.place-plain.ensures
+returns-in-Accepted : tie.Need-returns-in-Accepted
+returns-in-Accepted c = plain_after c.args.more c.judge_new.ensures c.in-Accepted.is c.next_slot-i.ensures c.write_scalars.ensures c.place_plain.ensures
 
 pub new_with_scalars_spec : {M : Type 1} → statement M
 new_with_scalars_spec =
     tie.close
     (tie.spec
-    judge-new-requires
-    enum-known-q
-    enum_told
-    next-slot-requires
-    write-scalars-requires
-    place-plain-requires
-    returns
-    same_length
-    same-length-2
-    returns-2)
+    judge_new-requires
+    enum_known-q
+    enum_told-1
+    next_slot-i-requires
+    write_scalars-requires
+    place_plain-requires
+    returns-in-Refused
+    shape_of-slots
+    shape_of-scalars
+    returns-in-Accepted)

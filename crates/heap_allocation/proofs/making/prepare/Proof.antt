@@ -4,51 +4,51 @@ use borrow.Author.Rules.{rules}
 use Rattle.heap_allocation.proofs.making.prepare.Statement.{statement}
 use Rattle.heap_allocation.proofs.making.prepare.Tie as tie
 
-judge-new-requires : tie.Need-judge-new-requires
-judge-new-requires c κs = search rules
+judge_new-requires : tie.Need-judge_new-requires
+judge_new-requires c κs = search rules
 
-enum-known-q : tie.Need-enum-known-q
-enum-known-q c = search rules
+enum_known-q : tie.Need-enum_known-q
+enum_known-q c = search rules
 
-enum_told : tie.Need-enum-told
-enum_told c = search rules
+enum_told-1 : tie.Need-enum_told-1
+enum_told-1 c = search rules
 
-returns : tie.Need-returns
-returns c = prepared_none c.before.before.before.before.before.before.before.before.before.requires c.before.before.before.judge-new.ensures c.before.enum_told.given.1 c.if1.true
+returns-then-size-eq0 : tie.Need-returns-then-size-eq0
+returns-then-size-eq0 c = prepared_none c.requires c.judge_new.ensures c.in-Accepted.is c.if-size-eq0.true
 
-make-room-requires : tie.Need-make-room-requires
-make-room-requires c κs = (c.before.before.before.before.before.before.before.before.before.before.before.before.requires, room-left c.before.before.before.before.before.before.before.before.before.before.before.before.args.bytes c.before.before.before.before.before.before.before.before.before.before.before.before.args.size c.before.before.before.before.before.before.before.before.before.before.before.before.requires c.before.before.before.before.before.before.judge-new.ensures c.before.before.before.before.enum_told.given.1)
+make_room-roomy-requires : tie.Need-make_room-roomy-requires
+make_room-roomy-requires c κs = (c.requires, room-left c.args.bytes c.args.size c.requires c.judge_new.ensures c.in-Accepted.is)
 
-returns-2 : tie.Need-returns-2
-returns-2 c =
-    let at-q : tie.After-q = search in
-    let at-judge : tie.After-judge-new = search in
+returns-in-Refused : tie.Need-returns-in-Refused
+returns-in-Refused c =
+    let at-q : tie.In-Refused = search in
+    let at-judge : tie.After-judge_new = search in
     let start : tie.Start = search in
-    prepared_refused start.pre at-judge.judge-new.ensures at-q.q.given.1
+    prepared_refused start.requires at-judge.judge_new.ensures at-q.in-Refused.is
 
-same_length : tie.Need-same-length
-same_length c = search rules
+shape_of-slots : tie.Need-shape_of-slots
+shape_of-slots c = search rules
 
-same-length-2 : tie.Need-same-length-2
-same-length-2 c = search rules
+shape_of-directory : tie.Need-shape_of-directory
+shape_of-directory c = search rules
 
-same-length-3 : tie.Need-same-length-3
-same-length-3 c = search rules
+shape_of-cells : tie.Need-shape_of-cells
+shape_of-cells c = search rules
 
-returns-3 : tie.Need-returns-3
-returns-3 c = prepared_room c.before.before.before.before.before.before.before.before.before.before.before.before.before.judge-new.ensures c.before.before.before.before.before.before.before.before.before.before.before.enum_told.given.1 c.before.before.before.before.before.before.make-room.ensures
+returns-else-size-eq0 : tie.Need-returns-else-size-eq0
+returns-else-size-eq0 c = prepared_room c.judge_new.ensures c.in-Accepted.is c.make_room-roomy.ensures
 
 pub prepare_spec : {M : Type 1} → statement M
 prepare_spec =
     tie.close
     (tie.spec
-    judge-new-requires
-    enum-known-q
-    enum_told
-    returns
-    make-room-requires
-    returns-2
-    same_length
-    same-length-2
-    same-length-3
-    returns-3)
+    judge_new-requires
+    enum_known-q
+    enum_told-1
+    returns-then-size-eq0
+    make_room-roomy-requires
+    returns-in-Refused
+    shape_of-slots
+    shape_of-directory
+    shape_of-cells
+    returns-else-size-eq0)

@@ -1,0 +1,13 @@
+use Rattle.std.proofs.Common.{◌∙◌, sym, arith}
+use Rattle.heap_allocation.proofs.FrameLaws.{turned-first, finished_first}
+use Rattle.heap_allocation.proofs.copy_frames.Goals as goal
+
+pub loop-i-preserved : goal.loop-i-preserved
+loop-i-preserved c = record {
+  within = omega arith;
+  same = c.put_frame.auto.cells ∙ c.loop-i.invariant.same;
+  rest = rw c.put_frame.ensures (turned-first _ _ c.requires.0 _ _ _ c.loop-i-test.true ∙ c.loop-i.invariant.rest);
+}
+
+pub returns : goal.returns
+returns c = sym (finished_first _ _ c.requires.0 _ _ _ c.loop-i-test.false) ∙ c.loop-i.invariant.rest
