@@ -1,4 +1,6 @@
 // What a call shows, as words.
+#![tactic(auto)]
+
 ghost use Rattle.std.specs.Prelude.{◌≡◌, List, ℕ};
 ghost use Rattle.std.specs.Float.Ieee.{to_bits};
 ghost use Rattle.std.specs.Float.{binary64};
@@ -24,7 +26,7 @@ use words::{Inline, Raw};
 
 // What a call shows: the number of the refusal or 0, the word answered, and what is answered
 // beside it.
-#[derive(Drop)]
+#[derive(Clone, Copy)]
 pub struct Shown {
     pub refusal: u64,
     pub word: u64,

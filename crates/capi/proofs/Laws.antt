@@ -35,7 +35,6 @@ use Rattle.answers.specs.declared.Shown.{Shown}
 use Rattle.answers.specs.Promise.{ShowsCall}
 use Rattle.answers.specs.Shows.{answer_shown, reply_shown, shown_of, with_lent}
 use Rattle.answers.proofs.ShownLaws.{shown-refusal}
-use Rattle.heap_record.specs.Record.{loaded}
 use Rattle.capi.specs.Record.{cursor_out}
 use Rattle.capi.specs.Promise.{ShowsList}
 

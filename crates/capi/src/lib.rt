@@ -1,6 +1,8 @@
 // The library for C and Rust: every call as a function on words and slices. The heap's record is
 // kept in nineteen words (see crate record). A function returns the number of the refusal, 0 where
 // the call is accepted; the words answered go into `answer`, zeros where there are none.
+#![tactic(auto)]
+
 ghost use Rattle.std.specs.Prelude.{◌≡◌, ◌/◌, ◌%◌, length};
 ghost use Rattle.std.specs.Float.Ieee.{of_bits};
 ghost use Rattle.std.specs.Float.{binary64};

@@ -2,7 +2,7 @@
 ghost use Rattle.std.specs.Prelude.{◌≡◌, List, [], ℕ};
 ghost use Rattle.layout.specs.Sections.{layout_of};
 ghost use Rattle.heap.specs.Answers.{done_is, made_is, reading_is};
-ghost use Rattle.heap.specs.State.{after, before, lent};
+ghost use Rattle.heap.specs.State.{state};
 ghost use Rattle.heap.specs.Good.{Good, Ready};
 ghost use Rattle.collections_growth.specs.Answers.{perhaps_is};
 ghost use Rattle.collector.specs.Answer.{collection_is};
@@ -98,8 +98,8 @@ fn new_call(
     code: u64,
     o: Operands,
 ) -> Turn
-    requires { Good (lent heap slots scalars list directory cells) }
-    ensures { (t : Lists) → ChangedBy (before heap slots scalars list directory cells) (act_in new_rows code o t) result.performed (after result.heap slots scalars list directory cells) }
+    requires { Good (state heap slots.old scalars.old list.now directory.old cells.old) }
+    ensures { (t : Lists) → ChangedBy (state heap slots.old scalars.old list.now directory.old cells.old) (act_in new_rows code o t) result.performed (state result.heap slots.new scalars.new list.now directory.new cells.new) }
 {
     let a = o.a;
     let b = o.b;
@@ -160,8 +160,8 @@ fn part_store(
     part: u64,
     v: u64,
 ) -> Turn
-    requires { Good (lent heap slots scalars list directory cells) }
-    ensures { ChangedBy (before heap slots scalars list directory cells) (part_store w part v) result.performed (after result.heap slots scalars list directory cells) }
+    requires { Good (state heap slots.now scalars.old list.now directory.now cells.now) }
+    ensures { ChangedBy (state heap slots.now scalars.old list.now directory.now cells.now) (part_store w part v) result.performed (state result.heap slots.now scalars.new list.now directory.now cells.now) }
 {
     match part {
         0 => {
@@ -206,8 +206,8 @@ fn store_call(
     code: u64,
     o: Operands,
 ) -> Turn
-    requires { Good (lent heap slots scalars list directory cells) }
-    ensures { (t : Lists) → ChangedBy (before heap slots scalars list directory cells) (act_in store_rows code o t) result.performed (after result.heap slots scalars list directory cells) }
+    requires { Good (state heap slots.old scalars.old list.now directory.now cells.old) }
+    ensures { (t : Lists) → ChangedBy (state heap slots.old scalars.old list.now directory.now cells.old) (act_in store_rows code o t) result.performed (state result.heap slots.new scalars.new list.now directory.now cells.new) }
 {
     let a = o.a;
     let b = o.b;
@@ -274,8 +274,8 @@ fn grow_call(
     code: u64,
     o: Operands,
 ) -> Turn
-    requires { Good (lent heap slots scalars list directory cells) }
-    ensures { (t : Lists) → ChangedBy (before heap slots scalars list directory cells) (act_in grow_rows code o t) result.performed (after result.heap slots scalars list directory cells) }
+    requires { Good (state heap slots.old scalars.old list.now directory.old cells.old) }
+    ensures { (t : Lists) → ChangedBy (state heap slots.old scalars.old list.now directory.old cells.old) (act_in grow_rows code o t) result.performed (state result.heap slots.new scalars.new list.now directory.new cells.new) }
 {
     let a = o.a;
     let b = o.b;
@@ -316,8 +316,8 @@ fn map_change(
     code: u64,
     o: Operands,
 ) -> Turn
-    requires { Good (lent heap slots scalars list directory cells) }
-    ensures { (t : Lists) → ChangedBy (before heap slots scalars list directory cells) (act_in map_change_rows code o t) result.performed (after result.heap slots scalars list directory cells) }
+    requires { Good (state heap slots.old scalars.old list.now directory.old cells.old) }
+    ensures { (t : Lists) → ChangedBy (state heap slots.old scalars.old list.now directory.old cells.old) (act_in map_change_rows code o t) result.performed (state result.heap slots.new scalars.new list.now directory.new cells.new) }
 {
     let a = o.a;
     let b = o.b;
@@ -378,8 +378,8 @@ pub fn change_group(
     code: u64,
     o: Operands,
 ) -> Turn
-    requires { Good (lent heap slots scalars list directory cells) }
-    ensures { (t : Lists) → ChangedBy (before heap slots scalars list directory cells) (act_in (change_rows group) code o t) result.performed (after result.heap slots scalars list directory cells) }
+    requires { Good (state heap slots.old scalars.old list.now directory.old cells.old) }
+    ensures { (t : Lists) → ChangedBy (state heap slots.old scalars.old list.now directory.old cells.old) (act_in (change_rows group) code o t) result.performed (state result.heap slots.new scalars.new list.now directory.new cells.new) }
 {
     match group {
         10 => new_call(heap, slots, scalars, list, directory, cells, code, o),
@@ -407,8 +407,8 @@ fn coroutine_turn(
     words: &[u64],
     frames: &[u64],
 ) -> Turn
-    requires { Good (lent heap slots scalars list directory cells) }
-    ensures { ChangedBy (before heap slots scalars list directory cells) (make (coroutine_made o (lists words.now frames.now [] []))) result.performed (after result.heap slots scalars list directory cells) }
+    requires { Good (state heap slots.old scalars.old list.now directory.old cells.old) }
+    ensures { ChangedBy (state heap slots.old scalars.old list.now directory.old cells.old) (make (coroutine_made o (lists words.now frames.now [] []))) result.performed (state result.heap slots.new scalars.new list.now directory.new cells.new) }
 {
     let k = Coroutine {
         state: o.a,
@@ -438,8 +438,8 @@ pub fn new_with_list(
     frames: &[u64],
     bytes: &[u8],
 ) -> Turn
-    requires { Good (lent heap slots scalars list directory cells) }
-    ensures { (places : List ℕ) → ChangedBy (before heap slots scalars list directory cells) (act_in new_list_rows code o (lists words.now frames.now bytes.now places)) result.performed (after result.heap slots scalars list directory cells) }
+    requires { Good (state heap slots.old scalars.old list.now directory.old cells.old) }
+    ensures { (places : List ℕ) → ChangedBy (state heap slots.old scalars.old list.now directory.old cells.old) (act_in new_list_rows code o (lists words.now frames.now bytes.now places)) result.performed (state result.heap slots.new scalars.new list.now directory.new cells.new) }
 {
     let a = o.a;
     let b = o.b;
@@ -489,8 +489,8 @@ pub fn lent_call(
     bytes: &mut [u8],
     places: &mut [u64],
 ) -> Turn
-    requires { Ready (lent heap slots scalars list directory cells) marks.old order.old layout.now table.now }
-    ensures by_index { (frames : List ℕ) → CommandedBy (layout_of layout.now) (memory_of code) (before heap slots scalars list directory cells) bytes.old places.old (act_in lent_rows code o (lists words.now frames bytes.old places.old)) result.performed (after result.heap slots scalars list directory cells) bytes.new places.new }
+    requires { Ready (state heap slots.old scalars.old list.old directory.now cells.now) marks.old order.old layout.now table.now }
+    ensures by_index { (frames : List ℕ) → CommandedBy (layout_of layout.now) (memory_of code) (state heap slots.old scalars.old list.old directory.now cells.now) bytes.old places.old (act_in lent_rows code o (lists words.now frames bytes.old places.old)) result.performed (state result.heap slots.new scalars.new list.new directory.now cells.now) bytes.new places.new }
     ensures marks_unchanged { marks.new ≡ marks.old }
     ensures order_unchanged { order.new ≡ order.old }
 {

@@ -1,10 +1,12 @@
 // The heap as a line controller calls it: every call by its number.
+#![tactic(auto)]
+
 pub mod changes;
 pub mod readings;
 
 ghost use Rattle.std.specs.Prelude.{◌≡◌};
 ghost use Rattle.layout.specs.Sections.{layout_of};
-ghost use Rattle.heap.specs.State.{after, before, lent};
+ghost use Rattle.heap.specs.State.{state};
 ghost use Rattle.heap.specs.Good.{Ready};
 ghost use Rattle.commands.specs.Table.{act_of, memory_of, shape_of};
 ghost use Rattle.commands.specs.Promise.{CommandedBy, lists};
@@ -12,7 +14,7 @@ ghost use Rattle.commands.specs.Promise.{CommandedBy, lists};
 use heap::Heap;
 
 // The numbers among the operands of a command, in their order; what it does not have is 0.
-#[derive(Drop)]
+#[derive(Clone, Copy)]
 pub struct Operands {
     pub a: u64,
     pub b: u64,
@@ -25,14 +27,14 @@ pub struct Operands {
 }
 
 // What came of a command: what its calls show, or that it makes none.
-#[derive(Drop)]
+#[derive(Clone, Copy)]
 pub enum Performed {
     Known(answers::Shown),
     Unknown,
 }
 
 // The heap's record after a command, and what came of it.
-#[derive(Drop)]
+#[derive(Clone, Copy)]
 pub struct Turn {
     pub heap: Heap,
     pub performed: Performed,
@@ -41,7 +43,7 @@ pub struct Turn {
 // The row of a command. Operands, a hexadecimal digit for each, the first lowest: 1 one byte, 2 two, 3
 // eight, 4 a byte up to 7, 5 a byte up to 3, 6 words, 7 bytes, 8 frames; 15: no such command. How the
 // answer is shown, which memory is lent, and the group of commands.
-#[derive(Drop)]
+#[derive(Clone, Copy)]
 pub struct Shape {
     pub fields: u64,
     pub form: u64,
@@ -197,9 +199,9 @@ pub fn perform(
     bytes: &mut [u8],
     places: &mut [u64],
 ) -> Turn
-    requires { Ready (lent heap slots scalars list directory cells) marks.old order.old layout.now table.now }
-    ensures commanded_by { CommandedBy (layout_of layout.now) (memory_of code) (before heap slots scalars list directory cells) bytes.old places.old (act_of code o (lists words.now frames.now bytes.old places.old)) result.performed (after result.heap slots scalars list directory cells) bytes.new places.new }
-    ensures ready { Ready (after result.heap slots scalars list directory cells) marks.new order.new layout.now table.now }
+    requires { Ready (state heap slots.old scalars.old list.old directory.old cells.old) marks.old order.old layout.now table.now }
+    ensures commanded_by { CommandedBy (layout_of layout.now) (memory_of code) (state heap slots.old scalars.old list.old directory.old cells.old) bytes.old places.old (act_of code o (lists words.now frames.now bytes.old places.old)) result.performed (state result.heap slots.new scalars.new list.new directory.new cells.new) bytes.new places.new }
+    ensures ready { Ready (state result.heap slots.new scalars.new list.new directory.new cells.new) marks.new order.new layout.now table.now }
     ensures marks_unchanged { marks.new ≡ marks.old }
     ensures order_unchanged { order.new ≡ order.old }
 {

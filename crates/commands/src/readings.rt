@@ -4,7 +4,7 @@ ghost use Rattle.map_store.specs.View.{cursor_is};
 ghost use Rattle.model.specs.Calls as Calls;
 ghost use Rattle.model.specs.Replies as Replies;
 ghost use Rattle.heap.specs.Answers.{answered, kind_number, reading_is, signed_is, test_is};
-ghost use Rattle.heap.specs.State.{State, before, lent};
+ghost use Rattle.heap.specs.State.{State, state};
 ghost use Rattle.heap.specs.Good.{Good};
 ghost use Rattle.heap_access.specs.Answers.{frame_seen};
 ghost use Rattle.collections_growth.specs.Answers.{perhaps_is};
@@ -140,8 +140,8 @@ fn plain_read(
     code: u64,
     o: Operands,
 ) -> Performed
-    requires { Good (lent heap slots scalars list directory cells) }
-    ensures { (t : Lists) → ReadBy (before heap slots scalars list directory cells) (act_in plain_rows code o t) result }
+    requires { Good (state heap slots.now scalars.now list.now directory.now cells.now) }
+    ensures { (t : Lists) → ReadBy (state heap slots.now scalars.now list.now directory.now cells.now) (act_in plain_rows code o t) result }
 {
     let w = o.a;
     match code {
@@ -183,8 +183,8 @@ fn function_read(
     cells: &[u64],
     w: u64,
 ) -> Performed
-    requires { Good (lent heap slots scalars list directory cells) }
-    ensures { ReadBy (before heap slots scalars list directory cells) (make_both (Calls.function_number w) (Calls.is_import w)) result }
+    requires { Good (state heap slots.now scalars.now list.now directory.now cells.now) }
+    ensures { ReadBy (state heap slots.now scalars.now list.now directory.now cells.now) (make_both (Calls.function_number w) (Calls.is_import w)) result }
 {
     let n = heap_access::readings::function_number(heap, slots, scalars, list, directory, cells, w);
     let b = heap_access::readings::is_import(heap, slots, scalars, list, directory, cells, w);
@@ -204,8 +204,8 @@ fn list_read(
     code: u64,
     o: Operands,
 ) -> Performed
-    requires { Good (lent heap slots scalars list directory cells) }
-    ensures { (t : Lists) → ReadBy (before heap slots scalars list directory cells) (act_in list_rows code o t) result }
+    requires { Good (state heap slots.now scalars.now list.now directory.now cells.now) }
+    ensures { (t : Lists) → ReadBy (state heap slots.now scalars.now list.now directory.now cells.now) (act_in list_rows code o t) result }
 {
     let w = o.a;
     match code {
@@ -252,8 +252,8 @@ fn coroutine_part(
     w: u64,
     code: u64,
 ) -> Performed
-    requires { Good (lent heap slots scalars list directory cells) }
-    ensures { ReadBy (before heap slots scalars list directory cells) (coroutine_part w code) result }
+    requires { Good (state heap slots.now scalars.now list.now directory.now cells.now) }
+    ensures { ReadBy (state heap slots.now scalars.now list.now directory.now cells.now) (coroutine_part w code) result }
 {
     match code {
         0 => word(heap_access::readings::read_payload(
@@ -293,8 +293,8 @@ fn coroutine_read(
     code: u64,
     o: Operands,
 ) -> Performed
-    requires { Good (lent heap slots scalars list directory cells) }
-    ensures { (t : Lists) → ReadBy (before heap slots scalars list directory cells) (act_in coroutine_rows code o t) result }
+    requires { Good (state heap slots.now scalars.now list.now directory.now cells.now) }
+    ensures { (t : Lists) → ReadBy (state heap slots.now scalars.now list.now directory.now cells.now) (act_in coroutine_rows code o t) result }
 {
     let w = o.a;
     match code {
@@ -340,8 +340,8 @@ fn step(
     cells: &[u64],
     o: Operands,
 ) -> Performed
-    requires { Good (lent heap slots scalars list directory cells) }
-    ensures { ReadBy (before heap slots scalars list directory cells) (make (Calls.next o.a (cursor_in o))) result }
+    requires { Good (state heap slots.now scalars.now list.now directory.now cells.now) }
+    ensures { ReadBy (state heap slots.now scalars.now list.now directory.now cells.now) (make (Calls.next o.a (cursor_in o))) result }
 {
     let c = cursor_in(o);
     let a = collections_maps::step_cursor(heap, slots, scalars, list, directory, cells, o.a, c);
@@ -359,8 +359,8 @@ fn map_read(
     code: u64,
     o: Operands,
 ) -> Performed
-    requires { Good (lent heap slots scalars list directory cells) }
-    ensures { (t : Lists) → ReadBy (before heap slots scalars list directory cells) (act_in map_rows code o t) result }
+    requires { Good (state heap slots.now scalars.now list.now directory.now cells.now) }
+    ensures { (t : Lists) → ReadBy (state heap slots.now scalars.now list.now directory.now cells.now) (act_in map_rows code o t) result }
 {
     let w = o.a;
     let b = o.b;
@@ -402,8 +402,8 @@ fn map_number(
     code: u64,
     o: Operands,
 ) -> Performed
-    requires { Good (lent heap slots scalars list directory cells) }
-    ensures { (t : Lists) → ReadBy (before heap slots scalars list directory cells) (act_in map_number_rows code o t) result }
+    requires { Good (state heap slots.now scalars.now list.now directory.now cells.now) }
+    ensures { (t : Lists) → ReadBy (state heap slots.now scalars.now list.now directory.now cells.now) (act_in map_number_rows code o t) result }
 {
     let w = o.a;
     match code {
@@ -443,8 +443,8 @@ fn iterator_read(
     code: u64,
     o: Operands,
 ) -> Performed
-    requires { Good (lent heap slots scalars list directory cells) }
-    ensures { (t : Lists) → ReadBy (before heap slots scalars list directory cells) (act_in iterator_rows code o t) result }
+    requires { Good (state heap slots.now scalars.now list.now directory.now cells.now) }
+    ensures { (t : Lists) → ReadBy (state heap slots.now scalars.now list.now directory.now cells.now) (act_in iterator_rows code o t) result }
 {
     let w = o.a;
     match code {
@@ -478,8 +478,8 @@ fn heap_read(
     code: u64,
     o: Operands,
 ) -> Performed
-    requires { Good (lent heap slots scalars list directory cells) }
-    ensures { (t : Lists) → ReadBy (before heap slots scalars list directory cells) (act_in heap_rows code o t) result }
+    requires { Good (state heap slots.now scalars.now list.now directory.now cells.now) }
+    ensures { (t : Lists) → ReadBy (state heap slots.now scalars.now list.now directory.now cells.now) (act_in heap_rows code o t) result }
 {
     let w = o.a;
     match code {
@@ -507,8 +507,8 @@ pub fn read_group(
     code: u64,
     o: Operands,
 ) -> Performed
-    requires { Good (lent heap slots scalars list directory cells) }
-    ensures { (t : Lists) → ReadBy (before heap slots scalars list directory cells) (act_in (read_rows group) code o t) result }
+    requires { Good (state heap slots.now scalars.now list.now directory.now cells.now) }
+    ensures { (t : Lists) → ReadBy (state heap slots.now scalars.now list.now directory.now cells.now) (act_in (read_rows group) code o t) result }
 {
     match group {
         2 => word_call(code, o),

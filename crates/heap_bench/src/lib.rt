@@ -1,8 +1,10 @@
 // The calls in loops, for bench/run: a Rust or C caller keeps the heap's record in nineteen words between the loops.
+#![tactic(auto)]
+
 ghost use Rattle.std.specs.Prelude.{◌≡◌, length};
 ghost use Rattle.layout.specs.Sections.{Tabled, layout_of};
 ghost use Rattle.model.specs.Calls as Calls;
-ghost use Rattle.heap.specs.State.{after, before, lent, state};
+ghost use Rattle.heap.specs.State.{state};
 ghost use Rattle.heap.specs.Good.{Good, Rested};
 ghost use Rattle.heap.specs.Opens.{beside, new_heap, opening_of};
 ghost use Rattle.heap_record.specs.Record.{OpensWords, loaded, weights_in};
@@ -54,8 +56,8 @@ pub extern "C" fn heap_bench_read_box(
     cells: &[u64],
     words: &[u64],
 ) -> u64
-    requires { Good (lent (loaded heap.now) slots scalars list directory cells) }
-    ensures { Summed (box_reads words.now) (length words.now) (before (loaded heap.now) slots scalars list directory cells) result }
+    requires { Good (state (loaded heap.now) slots.now scalars.now list.now directory.now cells.now) }
+    ensures { Summed (box_reads words.now) (length words.now) (state (loaded heap.now) slots.now scalars.now list.now directory.now cells.now) result }
 {
     let h = heap_record::load(heap);
     let mut i: usize = 0;
@@ -81,9 +83,9 @@ pub extern "C" fn heap_bench_store_box(
     words: &[u64],
     values: &[u64],
 )
-    requires good { Good (lent (loaded heap.now) slots scalars list directory cells) }
+    requires good { Good (state (loaded heap.now) slots.old scalars.now list.now directory.now cells.now) }
     requires values_len { length values.now ≡ length words.now }
-    ensures { Ran (box_stores words.now values.now) (length words.now) (before (loaded heap.now) slots scalars list directory cells) (after (loaded heap.now) slots scalars list directory cells) }
+    ensures { Ran (box_stores words.now values.now) (length words.now) (state (loaded heap.now) slots.old scalars.now list.now directory.now cells.now) (state (loaded heap.now) slots.new scalars.now list.now directory.now cells.now) }
 {
     let h = heap_record::load(heap);
     let mut i: usize = 0;
@@ -107,9 +109,9 @@ pub extern "C" fn heap_bench_read_item(
     words: &[u64],
     positions: &[u64],
 ) -> u64
-    requires good { Good (lent (loaded heap.now) slots scalars list directory cells) }
+    requires good { Good (state (loaded heap.now) slots.now scalars.now list.now directory.now cells.now) }
     requires positions_len { length positions.now ≡ length words.now }
-    ensures { Summed (item_reads words.now positions.now) (length words.now) (before (loaded heap.now) slots scalars list directory cells) result }
+    ensures { Summed (item_reads words.now positions.now) (length words.now) (state (loaded heap.now) slots.now scalars.now list.now directory.now cells.now) result }
 {
     let h = heap_record::load(heap);
     let mut i: usize = 0;
@@ -137,9 +139,9 @@ pub extern "C" fn heap_bench_store_item(
     positions: &[u64],
     v: u64,
 )
-    requires good { Good (lent (loaded heap.now) slots scalars list directory cells) }
+    requires good { Good (state (loaded heap.now) slots.now scalars.now list.now directory.now cells.old) }
     requires positions_len { length positions.now ≡ length words.now }
-    ensures { Ran (item_stores words.now positions.now v) (length words.now) (before (loaded heap.now) slots scalars list directory cells) (after (loaded heap.now) slots scalars list directory cells) }
+    ensures { Ran (item_stores words.now positions.now v) (length words.now) (state (loaded heap.now) slots.now scalars.now list.now directory.now cells.old) (state (loaded heap.now) slots.now scalars.now list.now directory.now cells.new) }
 {
     let h = heap_record::load(heap);
     let mut i: usize = 0;
@@ -163,9 +165,9 @@ pub extern "C" fn heap_bench_new_box(
     w: u64,
     out: &mut [u64],
 )
-    requires { Good (lent (loaded heap.old) slots scalars list directory cells) }
-    ensures ran { Ran (boxes w) (length out.old) (before (loaded heap.old) slots scalars list directory cells) (after (loaded heap.new) slots scalars list directory cells) }
-    ensures filled { Filled (boxes w) (before (loaded heap.old) slots scalars list directory cells) out.new }
+    requires { Good (state (loaded heap.old) slots.old scalars.now list.now directory.now cells.now) }
+    ensures ran { Ran (boxes w) (length out.old) (state (loaded heap.old) slots.old scalars.now list.now directory.now cells.now) (state (loaded heap.new) slots.new scalars.now list.now directory.now cells.now) }
+    ensures filled { Filled (boxes w) (state (loaded heap.old) slots.old scalars.now list.now directory.now cells.now) out.new }
 {
     let mut h = heap_record::load(heap);
     let mut i: usize = 0;
@@ -192,9 +194,9 @@ pub extern "C" fn heap_bench_new_array(
     size: i64,
     out: &mut [u64],
 )
-    requires { Good (lent (loaded heap.old) slots scalars list directory cells) }
-    ensures ran { Ran (arrays t size) (length out.old) (before (loaded heap.old) slots scalars list directory cells) (after (loaded heap.new) slots scalars list directory cells) }
-    ensures filled { Filled (arrays t size) (before (loaded heap.old) slots scalars list directory cells) out.new }
+    requires { Good (state (loaded heap.old) slots.old scalars.now list.now directory.old cells.old) }
+    ensures ran { Ran (arrays t size) (length out.old) (state (loaded heap.old) slots.old scalars.now list.now directory.old cells.old) (state (loaded heap.new) slots.new scalars.now list.now directory.new cells.new) }
+    ensures filled { Filled (arrays t size) (state (loaded heap.old) slots.old scalars.now list.now directory.old cells.old) out.new }
 {
     let mut h = heap_record::load(heap);
     let mut i: usize = 0;
@@ -219,9 +221,9 @@ pub extern "C" fn heap_bench_new_map(
     cells: &[u64],
     out: &mut [u64],
 )
-    requires { Good (lent (loaded heap.old) slots scalars list directory cells) }
-    ensures ran { Ran (maps) (length out.old) (before (loaded heap.old) slots scalars list directory cells) (after (loaded heap.new) slots scalars list directory cells) }
-    ensures filled { Filled (maps) (before (loaded heap.old) slots scalars list directory cells) out.new }
+    requires { Good (state (loaded heap.old) slots.old scalars.old list.now directory.now cells.now) }
+    ensures ran { Ran (maps) (length out.old) (state (loaded heap.old) slots.old scalars.old list.now directory.now cells.now) (state (loaded heap.new) slots.new scalars.new list.now directory.now cells.now) }
+    ensures filled { Filled (maps) (state (loaded heap.old) slots.old scalars.old list.now directory.now cells.now) out.new }
 {
     let mut h = heap_record::load(heap);
     let mut i: usize = 0;
@@ -247,9 +249,9 @@ pub extern "C" fn heap_bench_new_iter(
     source: u64,
     out: &mut [u64],
 )
-    requires { Good (lent (loaded heap.old) slots scalars list directory cells) }
-    ensures ran { Ran (iterators source) (length out.old) (before (loaded heap.old) slots scalars list directory cells) (after (loaded heap.new) slots scalars list directory cells) }
-    ensures filled { Filled (iterators source) (before (loaded heap.old) slots scalars list directory cells) out.new }
+    requires { Good (state (loaded heap.old) slots.old scalars.old list.now directory.now cells.now) }
+    ensures ran { Ran (iterators source) (length out.old) (state (loaded heap.old) slots.old scalars.old list.now directory.now cells.now) (state (loaded heap.new) slots.new scalars.new list.now directory.now cells.now) }
+    ensures filled { Filled (iterators source) (state (loaded heap.old) slots.old scalars.old list.now directory.now cells.now) out.new }
 {
     let mut h = heap_record::load(heap);
     let mut i: usize = 0;
@@ -275,8 +277,8 @@ pub extern "C" fn heap_bench_push(
     w: u64,
     values: &[u64],
 )
-    requires { Good (lent (loaded heap.old) slots scalars list directory cells) }
-    ensures { Ran (pushes w values.now) (length values.now) (before (loaded heap.old) slots scalars list directory cells) (after (loaded heap.new) slots scalars list directory cells) }
+    requires { Good (state (loaded heap.old) slots.old scalars.now list.now directory.old cells.old) }
+    ensures { Ran (pushes w values.now) (length values.now) (state (loaded heap.old) slots.old scalars.now list.now directory.old cells.old) (state (loaded heap.new) slots.new scalars.now list.now directory.new cells.new) }
 {
     let mut h = heap_record::load(heap);
     let mut i: usize = 0;
@@ -301,9 +303,9 @@ pub extern "C" fn heap_bench_pop(
     w: u64,
     n: usize,
 ) -> u64
-    requires { Good (lent (loaded heap.now) slots scalars list directory cells) }
-    ensures ran { Ran (pops w) n (before (loaded heap.now) slots scalars list directory cells) (after (loaded heap.now) slots scalars list directory cells) }
-    ensures summed { Summed (pops w) n (before (loaded heap.now) slots scalars list directory cells) result }
+    requires { Good (state (loaded heap.now) slots.old scalars.now list.now directory.now cells.now) }
+    ensures ran { Ran (pops w) n (state (loaded heap.now) slots.old scalars.now list.now directory.now cells.now) (state (loaded heap.now) slots.new scalars.now list.now directory.now cells.now) }
+    ensures summed { Summed (pops w) n (state (loaded heap.now) slots.old scalars.now list.now directory.now cells.now) result }
 {
     let h = heap_record::load(heap);
     let mut i: usize = 0;
@@ -329,9 +331,9 @@ pub extern "C" fn heap_bench_put(
     hashes: &[u64],
     keys: &[u64],
 )
-    requires good { Good (lent (loaded heap.old) slots scalars list directory cells) }
+    requires good { Good (state (loaded heap.old) slots.old scalars.old list.now directory.old cells.old) }
     requires hashes_len { length hashes.now ≡ length keys.now }
-    ensures { Ran (puts w hashes.now keys.now) (length keys.now) (before (loaded heap.old) slots scalars list directory cells) (after (loaded heap.new) slots scalars list directory cells) }
+    ensures { Ran (puts w hashes.now keys.now) (length keys.now) (state (loaded heap.old) slots.old scalars.old list.now directory.old cells.old) (state (loaded heap.new) slots.new scalars.new list.now directory.new cells.new) }
 {
     let mut h = heap_record::load(heap);
     let mut i: usize = 0;
@@ -360,9 +362,9 @@ pub extern "C" fn heap_bench_find(
     hashes: &[u64],
     keys: &[u64],
 ) -> u64
-    requires good { Good (lent (loaded heap.now) slots scalars list directory cells) }
+    requires good { Good (state (loaded heap.now) slots.now scalars.now list.now directory.now cells.now) }
     requires hashes_len { length hashes.now ≡ length keys.now }
-    ensures { Summed (finds w hashes.now keys.now) (length keys.now) (before (loaded heap.now) slots scalars list directory cells) result }
+    ensures { Summed (finds w hashes.now keys.now) (length keys.now) (state (loaded heap.now) slots.now scalars.now list.now directory.now cells.now) result }
 {
     let h = heap_record::load(heap);
     let mut i: usize = 0;
@@ -392,9 +394,9 @@ pub extern "C" fn heap_bench_remove(
     hashes: &[u64],
     keys: &[u64],
 )
-    requires good { Good (lent (loaded heap.old) slots scalars list directory cells) }
+    requires good { Good (state (loaded heap.old) slots.old scalars.old list.now directory.old cells.old) }
     requires hashes_len { length hashes.now ≡ length keys.now }
-    ensures { Ran (removals w hashes.now keys.now) (length keys.now) (before (loaded heap.old) slots scalars list directory cells) (after (loaded heap.new) slots scalars list directory cells) }
+    ensures { Ran (removals w hashes.now keys.now) (length keys.now) (state (loaded heap.old) slots.old scalars.old list.now directory.old cells.old) (state (loaded heap.new) slots.new scalars.new list.now directory.new cells.new) }
 {
     let mut h = heap_record::load(heap);
     let mut i: usize = 0;
@@ -422,9 +424,9 @@ pub extern "C" fn heap_bench_iter_next(
     w: u64,
     n: usize,
 ) -> u64
-    requires { Good (lent (loaded heap.now) slots scalars list directory cells) }
-    ensures ran { Ran (steps w) n (before (loaded heap.now) slots scalars list directory cells) (after (loaded heap.now) slots scalars list directory cells) }
-    ensures summed { Summed (steps w) n (before (loaded heap.now) slots scalars list directory cells) result }
+    requires { Good (state (loaded heap.now) slots.now scalars.old list.now directory.now cells.now) }
+    ensures ran { Ran (steps w) n (state (loaded heap.now) slots.now scalars.old list.now directory.now cells.now) (state (loaded heap.now) slots.now scalars.new list.now directory.now cells.now) }
+    ensures summed { Summed (steps w) n (state (loaded heap.now) slots.now scalars.old list.now directory.now cells.now) result }
 {
     let h = heap_record::load(heap);
     let mut i: usize = 0;
@@ -453,10 +455,10 @@ pub extern "C" fn heap_bench_collect(
     roots: &[u64],
     places: &mut [u64],
 ) -> u64
-    requires good { Good (lent (loaded heap.old) slots scalars list directory cells) }
+    requires good { Good (state (loaded heap.old) slots.old scalars.old list.old directory.now cells.now) }
     requires tabled { Tabled layout.now table.now }
     requires rested { Rested (loaded heap.old).size marks.old order.old }
-    ensures collects { Collects (layout_of layout.now) roots.now places.old (before (loaded heap.old) slots scalars list directory cells) result places.new (after (loaded heap.new) slots scalars list directory cells) }
+    ensures collects { Collects (layout_of layout.now) roots.now places.old (state (loaded heap.old) slots.old scalars.old list.old directory.now cells.now) result places.new (state (loaded heap.new) slots.new scalars.new list.new directory.now cells.now) }
     ensures marks_unchanged { marks.new ≡ marks.old }
     ensures order_unchanged { order.new ≡ order.old }
 {

@@ -1,6 +1,8 @@
 // The heap's record kept in nineteen words between calls: the account (used, since, threshold,
 // limit), the five weights, and size, fresh, free, top, entries, taken, present, coroutines,
 // collections, freed.
+#![tactic(auto)]
+
 ghost use Rattle.std.specs.Prelude.{◌≡◌, length};
 ghost use Rattle.heap.specs.State.{state};
 ghost use Rattle.heap.specs.Opens.{beside, new_heap, opening_of};

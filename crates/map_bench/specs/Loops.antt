@@ -1,5 +1,5 @@
 -- What the loops make of a store.
-use Rattle.std.specs.Prelude.{◌≡◌, Bool, true, false, cond, List, ℕ, zero, suc, ◌+◌, ◌%◌, ◌≤◌, ◌<◌, eqb, leb, ltb, pos, get_or, length}
+use Rattle.std.specs.Prelude.{◌≡◌, false, cond, List, ℕ, zero, suc, ◌+◌, ◌%◌, eqb, leb, ltb, pos, get_or, length}
 use Rattle.std.proofs.Math.Option.{Option, none, some}
 use Rattle.map_store.specs.Store as S
 use Rattle.map_store.specs.View.{store_of, room_of}

@@ -1,4 +1,6 @@
 // The map store's calls in loops, for bench/map: a Rust or C caller keeps the store's record in seven words between the calls.
+#![tactic(auto)]
+
 ghost use Rattle.std.specs.Prelude.{◌≡◌, length};
 ghost use Rattle.map_store.specs.View.{store_of};
 ghost use Rattle.map_store.specs.Map.{Good};
@@ -7,7 +9,7 @@ ghost use Rattle.map_bench.specs.Loops.{loaded, bare, Ran, Answered, put_to, rem
 use map_store::{Cursor, Found, Last, MapStore};
 
 // The store after a put, or the number of the refusal.
-#[derive(Drop)]
+#[derive(Clone, Copy)]
 pub enum Outcome {
     Done(MapStore),
     Refused(u64),

@@ -1,8 +1,7 @@
 -- The calls of a command over the fronts of the lent buffers, and its line. Assumes nothing.
-use Prim.Native.Nat.{ℕ, zero, suc, ◌+◌, ◌-◌, ◌*◌, ◌≤◌, ◌<◌}
+use Prim.Native.Nat.{ℕ, zero, suc, ◌≤◌, ◌<◌}
 use mathlib.Core.Path.{◌≡◌, refl, sym, ap, subst, ◌∙◌}
 use mathlib.Core.Logic.{◌≢◌}
-use mathlib.Core.Bool.{Bool, true, false, cond}
 use mathlib.Core.List.{List, [], ◌∷◌, ◌++◌}
 use native.Mathlib.Omega.{arith}
 use lib.ListN.{length, take, drop}
@@ -27,15 +26,15 @@ use Rattle.commands.specs.declared.Performed.TheVariants.{Known, Unknown}
 use Rattle.commands.specs.declared.Shape.{Shape}
 use Rattle.commands.specs.Rows.{Act, Lists, Memory, add_root, make, make_both, no_act, opens_with}
 use Rattle.commands.specs.Table.{act_of, form_of, memory_of, shape_of}
-use Rattle.commands.specs.Promise.{CommandedBy, calls_in, lists}
+use Rattle.commands.specs.Promise.{CommandedBy, calls_in}
 use Rattle.commands.proofs.ActLaws as Acts
 use Rattle.script.specs.declared.Session.{Session}
 use Rattle.script.specs.Lines.{adjusted, buffer_text, lent_text, line_text}
 use Rattle.script.specs.Replay.{Play, acted, called, ended}
-use Rattle.script.specs.Turns.{Buffers, EndLine, Goes, Roomy, SessionReady, form_at, layout_in, lists_in, memory_at, moved_to, play_of, seated_in}
+use Rattle.script.specs.Turns.{Buffers, EndLine, Goes, Roomy, SessionReady, form_at, layout_in, lists_in, memory_at, play_of, seated_in}
 use Rattle.script.proofs.ActLaws.{silent}
 use Rattle.script.proofs.LendLaws.{form_code_lem, memory_code_lem}
-use Rattle.script.proofs.SessionLaws.{ended_goes, puts-within, with}
+use Rattle.script.proofs.SessionLaws.{puts-within}
 
 -- what is lent are the fronts of the cells, the bytes and the places
 pub front_performed : {l : Layout} {e : Memory} {b : State} {bytes places : List ℕ} {x : Act} {p : Performed} {h : Heap} {s v f d cs bs ps marks order layout table : List ℕ} (room : ℕ) (rest : List ℕ) (m : ℕ) (more : List ℕ) (n : ℕ) (others : List ℕ) → length cs ≡ room → length bs ≡ m → length ps ≡ n →

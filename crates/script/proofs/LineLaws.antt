@@ -1,5 +1,5 @@
 -- The text of a line's parts. Assumes nothing.
-use Prim.Native.Nat.{ℕ, zero, suc, ◌+◌, ◌-◌, ◌*◌, ◌≤◌, ◌<◌}
+use Prim.Native.Nat.{ℕ, ◌+◌, ◌*◌, ◌≤◌, ◌<◌}
 use mathlib.Core.Path.{◌≡◌, refl, sym, ap, ◌∙◌}
 use mathlib.Core.Bool.{Bool, true, false, cond}
 use mathlib.Core.List.{List, [], ◌∷◌, ◌++◌, append_assoc, append-nil}
@@ -8,16 +8,15 @@ use native.Mathlib.Numerals.{add-one}
 use lib.Dec.{eqb}
 use lib.ListN.{length, get_or, take, drop, length-append, length-take, drop_of_length-le}
 use lib.Seq.{drop-cons}
-use Rattle.history.proofs.Facts.{eqb_no}
 use Rattle.model.specs.Callsheet.{decimal, digits}
 use Rattle.answers.specs.declared.Shown.{Shown}
 use Rattle.text.specs.Puts.{Puts}
 use Rattle.text.specs.Lines.{line_head}
 use Rattle.text.proofs.DigitsLaws.{length_digits, decimal_most}
-use Rattle.text.proofs.PutsLaws.{length_head, puts-append, puts_none, puts-same}
+use Rattle.text.proofs.PutsLaws.{puts-append, puts_none, puts-same}
 use Rattle.commands.specs.Rows.{Form, Memory, buffer, list_of_places, own, root_list}
 use Rattle.script.specs.declared.Forms.{Forms}
-use Rattle.script.specs.Lines.{buffer_text, extra_text, field_text, forms, forms_of, hex_text, lent_text, line_text, list_text}
+use Rattle.script.specs.Lines.{buffer_text, extra_text, field_text, forms_of, hex_text, lent_text, line_text, list_text}
 
 pub length-field : (form w : ℕ) → length (field_text form w) ≤ 21
 unfolding field_text

@@ -1,5 +1,5 @@
 -- Openings of a script. Assumes nothing.
-use Prim.Native.Nat.{ℕ, ◌+◌, ◌-◌, ◌*◌, ◌≤◌, ◌<◌, min}
+use Prim.Native.Nat.{ℕ, ◌-◌, ◌*◌, ◌≤◌, ◌<◌, min}
 use mathlib.Core.Path.{◌≡◌, refl, sym, ap, ◌∙◌}
 use mathlib.Core.Bool.{Bool, true, false, cond, ◌&&◌}
 use mathlib.Core.List.{List, [], ◌∷◌}
@@ -11,7 +11,6 @@ use lib.ListN.{length, take, drop}
 use Rattle.history.proofs.Facts.{leb_no, leb_yes}
 use lib.Seq.{length-take-le}
 use Rattle.layout.specs.Layout.{Layout, parse, reading}
-use Rattle.layout.specs.Sections.{layout_of}
 use Rattle.model.specs.Callsheet.{digits, printed, sheet_opening}
 use Rattle.model.specs.Model.{Model}
 use Rattle.model.specs.Terms.{is_some}
@@ -23,15 +22,14 @@ use Rattle.heap.specs.declared.Opened.TheVariants as Open
 use Rattle.heap.specs.declared.Refusal.{Refusal}
 use Rattle.heap.specs.State.{State, model_of, state}
 use Rattle.heap.specs.Opens as Heaps
-use Rattle.heap.specs.Opens.{Accepts, Beside, Opens, accepts, beside, new_heap, opening_of, room_for}
+use Rattle.heap.specs.Opens.{Beside, Opens, accepts, beside, new_heap, opening_of, room_for}
 use Rattle.text.specs.Puts.{Puts}
 use Rattle.commands.specs.declared.Operands.{Operands}
 use Rattle.commands.specs.Table.{opening_in}
 use Rattle.script.specs.declared.Session.{Session}
-use Rattle.script.specs.declared.Started.{Started}
 use Rattle.script.specs.declared.Started.TheVariants as Start
-use Rattle.script.specs.Replay.{Play, Turned, opened_by, seatable}
-use Rattle.script.specs.Turns.{Buffers, EndLine, Goes, LargeLine, Roomy, SessionReady, Starts, first_opening, first_session, heap_room, large_opening, layout_in, moved_to, opens_first, play_of, refused_opening, roomy, script_room, started_by, started_is}
+use Rattle.script.specs.Replay.{opened_by, seatable}
+use Rattle.script.specs.Turns.{Buffers, EndLine, Goes, LargeLine, Roomy, SessionReady, Starts, first_opening, first_session, heap_room, large_opening, moved_to, opens_first, play_of, refused_opening, roomy, script_room, started_by, started_is}
 use Rattle.script.proofs.SessionLaws.{ended_goes, kept_goes, puts-within, with}
 
 and-true : (b : Bool) → b && true ≡ b

@@ -1,7 +1,7 @@
 -- All operands of a command, one after the other: what is read and what is left come to the whole. Assumes nothing.
 use Prim.Native.Nat.{ℕ, zero, suc, ◌+◌, ◌-◌, ◌*◌, ◌/◌, ◌%◌, ◌≤◌, ◌<◌}
 use mathlib.Core.Path.{◌≡◌, refl, sym, ap, ◌∙◌}
-use mathlib.Core.Bool.{Bool, true, false, cond}
+use mathlib.Core.Bool.{Bool, true, false}
 use mathlib.Core.List.{List, [], ◌∷◌, ◌++◌}
 use mathlib.Core.Option.{Option, none, some}
 use native.Mathlib.Omega.{arith}
@@ -12,7 +12,7 @@ use Rattle.script.specs.declared.Command.{Command}
 use Rattle.script.specs.declared.Reader.{Reader}
 use Rattle.commands.specs.Rows.{Field, coded, field_at}
 use Rattle.commands.specs.Table.{fields_code, fields_of, shape_of}
-use Rattle.script.specs.Parse.{Called, Parsed, and_then, as_called, called_by, called_of, operands_of, parse, parse_by, parse_call, parse_field, unread}
+use Rattle.script.specs.Parse.{Parsed, and_then, as_called, called_by, called_of, operands_of, parse, parse_by, parse_call, parse_field, unread}
 use Rattle.script.specs.Reads.{Holds, Parses, Reads, Room, Takes, called_is, missing_of}
 use Rattle.script.proofs.FieldLaws.{coded-field, coded_none, coded-rest, fields-few, shape_none}
 

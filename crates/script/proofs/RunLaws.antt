@@ -1,7 +1,7 @@
 -- Commands one after another: their lines and the text of those left come to the script's. Assumes nothing.
-use Prim.Native.Nat.{ℕ, suc, ◌+◌, ◌-◌, ◌≤◌, ◌<◌}
+use Prim.Native.Nat.{ℕ, ◌+◌, ◌-◌, ◌≤◌, ◌<◌}
 use mathlib.Core.Path.{◌≡◌, refl, sym, ap, ◌∙◌}
-use mathlib.Core.List.{List, [], ◌∷◌, ◌++◌, append_assoc}
+use mathlib.Core.List.{List, ◌∷◌, ◌++◌, append_assoc}
 use native.Mathlib.Omega.{arith}
 use native.Mathlib.Numerals.{add-one}
 use lib.ListN.{length, get_or, take, drop}
@@ -9,7 +9,7 @@ use lib.Seq.{drop-cons}
 use Rattle.heap_slots.proofs.Cases.{by_cases, lt_or_le}
 use Rattle.text.proofs.PutsLaws.{drop-later}
 use Rattle.script.specs.declared.Session.{Session}
-use Rattle.script.specs.Replay.{Play, Turned, play_after, text_from}
+use Rattle.script.specs.Replay.{Play, play_after, text_from}
 use Rattle.script.specs.Turns.{Buffers, Plays, SessionReady, Turns, moved_to, play_of, turn_at}
 use Rattle.script.proofs.CallLaws.{Kept}
 use Rattle.script.proofs.ReplayLaws.{play_turn, script_holds, text_turn}

@@ -1,12 +1,9 @@
 -- Sessions between commands: the lent buffers, roots, the end of a script. Assumes nothing.
-use Prim.Native.Nat.{ℕ, ◌+◌, ◌-◌, ◌*◌, ◌≤◌, ◌<◌}
+use Prim.Native.Nat.{ℕ, ◌+◌, ◌≤◌, ◌<◌}
 use mathlib.Core.Path.{◌≡◌, refl, sym, ap, subst, ◌∙◌}
-use mathlib.Core.Bool.{Bool, true, false, cond}
-use mathlib.Core.List.{List, [], ◌∷◌, ◌++◌}
-use mathlib.Core.Option.{Option, none, some}
+use mathlib.Core.List.{List, [], ◌∷◌}
 use native.Mathlib.Omega.{arith}
 use native.Mathlib.Numerals.{add-one}
-use lib.Dec.{leb}
 use lib.ListN.{length, set, take, drop, length-append, length-set, length-take}
 use lib.Seq.{drop-length, length-take-le, take-suc-set}
 use Rattle.history.proofs.Facts.{leb_no, leb_yes}
@@ -14,7 +11,7 @@ use Rattle.model.specs.Callsheet.{digits, printed}
 use Rattle.heap.specs.State.{model_of}
 use Rattle.text.specs.Puts.{Puts}
 use Rattle.script.specs.declared.Session.{Session}
-use Rattle.script.specs.Replay.{Play, Turned, ended, rooted}
+use Rattle.script.specs.Replay.{Turned, ended, rooted}
 use Rattle.script.specs.Turns.{Buffers, EndLine, Goes, Roomy, RootLine, SessionReady, moved_to, play_of}
 
 -- ---- the lent buffers with other roots, words, bytes, places and text

@@ -1,13 +1,11 @@
 -- Operands read one after the other. Assumes nothing.
-use Prim.Native.Nat.{ℕ, zero, suc, ◌+◌, ◌-◌, ◌*◌, ◌/◌, ◌≤◌, ◌<◌}
+use Prim.Native.Nat.{ℕ, zero, suc, ◌+◌, ◌-◌, ◌*◌, ◌≤◌, ◌<◌}
 use mathlib.Core.Path.{◌≡◌, refl, sym, ap, ◌∙◌}
-use mathlib.Core.Logic.{◌≢◌}
-use mathlib.Core.Bool.{Bool, true, false, cond}
+use mathlib.Core.Bool.{true}
 use mathlib.Core.List.{List, [], ◌∷◌, ◌++◌, append_assoc, append-nil}
 use mathlib.Core.Option.{Option, none, some}
 use native.Mathlib.Omega.{arith}
 use native.Mathlib.Numerals.{add-one}
-use lib.Dec.{leb}
 use lib.ListN.{length, get_or, set, take, drop, length-append, length-drop, length-set, get_or-append, get_or-eq_default}
 use lib.Seq.{drop-drop, get_or-append_seam, get_or-set_other, get_or-set_same, take-suc-set}
 use Rattle.history.proofs.Facts.{leb_yes, leb_no}
@@ -16,7 +14,7 @@ use Rattle.model.specs.Callsheet.{little_endian}
 use Rattle.text.specs.Puts.{ReadsLittle}
 use Rattle.script.specs.declared.Reader.{Reader}
 use Rattle.script.specs.Parse.{Parsed, take_list, take_number, with_bytes, with_frames, with_number, with_words, words_in}
-use Rattle.script.specs.Reads.{Fills, Holds, Parses, Room, Takes, missing_of}
+use Rattle.script.specs.Reads.{Fills, Holds, Takes, missing_of}
 
 -- ---- words
 

@@ -1,10 +1,9 @@
 -- The command at a place: read, lent its memory, performed. Assumes nothing.
-use Prim.Native.Nat.{ℕ, zero, suc, ◌+◌, ◌-◌, ◌*◌, ◌≤◌, ◌<◌}
+use Prim.Native.Nat.{ℕ, ◌+◌, ◌-◌, ◌≤◌, ◌<◌}
 use mathlib.Core.Path.{◌≡◌, refl, sym, ap, ◌∙◌}
-use mathlib.Core.Logic.{◌≢◌}
-use mathlib.Core.Bool.{Bool, true, false, cond}
-use mathlib.Core.List.{List, [], ◌∷◌, ◌++◌}
-use mathlib.Core.Option.{Option, none, some}
+use mathlib.Core.Bool.{Bool, true, false}
+use mathlib.Core.List.{List}
+use mathlib.Core.Option.{none, some}
 use native.Mathlib.Omega.{arith}
 use borrow.Author.Tests.{leb-true}
 use lib.ListN.{length, get_or, take, drop, length-drop, length-replicate, length-take, replicate}
@@ -13,17 +12,17 @@ use Rattle.model.specs.Opening.{open_heap}
 use Rattle.heap.specs.State.{model_of}
 use Rattle.commands.specs.declared.Operands.{Operands}
 use Rattle.commands.specs.declared.Shape.{Shape}
-use Rattle.commands.specs.Rows.{Memory, choose, joined}
-use Rattle.commands.specs.Table.{act_in, act_of, coroutine_rows, groups, grow_rows, heap_rows, iterator_rows, lent_rows, list_rows, map_change_rows, map_number_rows, map_rows, memory_of, new_list_rows, new_rows, opening_in, plain_rows, session_rows, shape_of, store_rows, table, word_rows}
+use Rattle.commands.specs.Rows.{choose, joined}
+use Rattle.commands.specs.Table.{act_in, act_of, groups, memory_of, opening_in, session_rows, shape_of, table}
 use Rattle.commands.specs.Promise.{lists}
 use Rattle.script.specs.declared.Command.{Command}
 use Rattle.script.specs.declared.Session.{Session}
 use Rattle.script.specs.Parse.{Called, called_by}
 use Rattle.script.specs.Reads.{Reads, called_is}
 use Rattle.script.specs.Replay.{Play, Turned, acted, bytes_for, ended, frames_for, lendable, lists_for, numbered, opened_by, places_for, rooted, turn_by, turn_of, words_for}
-use Rattle.script.specs.Turns.{Buffers, EndLine, Fronts, Goes, LendsWords, Placed, RootLine, SessionReady, Turns, memory_at, moved_to, own_bytes, play_of, turn_at}
+use Rattle.script.specs.Turns.{Buffers, EndLine, Fronts, Goes, LendsWords, Placed, SessionReady, Turns, memory_at, own_bytes, play_of, turn_at}
 use Rattle.script.proofs.LendLaws.{called_as, called_is_lem, called_not, memory_code_lem}
-use Rattle.script.proofs.SessionLaws.{Lengths, ended_goes, ready_with, rooted_goes, with}
+use Rattle.script.proofs.SessionLaws.{ended_goes, ready_with, with}
 
 pub part-short : (n k : ℕ) (l : List ℕ) → length (take n (drop k l)) ≤ length l
 part-short n k l = omega (arith, length-take n (drop k l), length-drop k l)

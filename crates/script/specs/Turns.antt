@@ -6,7 +6,7 @@ use Rattle.model.specs.Callsheet.{digits, printed, sheet_opening}
 use Rattle.model.specs.Model.{Model}
 use Rattle.model.specs.Terms.{is_some}
 use Rattle.model.specs.Opening.{Opening, open_heap}
-use Rattle.heap.specs.State.{Lent, Pair, State, model_of, state}
+use Rattle.heap.specs.State.{State, model_of, state}
 use Rattle.heap.specs.Good.{Ready}
 use Rattle.heap.specs.Opens.{new_heap, opening_of}
 use Rattle.text.specs.Puts.{Puts}
@@ -43,28 +43,23 @@ pub record Buffers : Type 0 where
   pub places : List ℕ
   pub out : List ℕ
 
-abbrev pub lend : Lent → Lent → Lent → Lent → Lent → Lent → Lent → Lent → Lent → Lent → Lent → Lent → Lent → Buffers
+-- what the lent buffers hold: in a requires, and in an ensures before and after the call
+abbrev pub lend : List ℕ → List ℕ → List ℕ → List ℕ → List ℕ → List ℕ → List ℕ → List ℕ → List ℕ → List ℕ → List ℕ → List ℕ → List ℕ → Buffers
 lend slots scalars list directory cells marks order table roots words bytes places out = record {
-  slots = slots.now;
-  scalars = scalars.now;
-  list = list.now;
-  directory = directory.now;
-  cells = cells.now;
-  marks = marks.now;
-  order = order.now;
-  table = table.now;
-  roots = roots.now;
-  words = words.now;
-  bytes = bytes.now;
-  places = places.now;
-  out = out.now;
+  slots = slots;
+  scalars = scalars;
+  list = list;
+  directory = directory;
+  cells = cells;
+  marks = marks;
+  order = order;
+  table = table;
+  roots = roots;
+  words = words;
+  bytes = bytes;
+  places = places;
+  out = out;
 }
-
-abbrev pub on_entry : Pair → Pair → Pair → Pair → Pair → Pair → Pair → Pair → Pair → Pair → Pair → Pair → Pair → Buffers
-on_entry slots scalars list directory cells marks order table roots words bytes places out = lend slots.entry scalars.entry list.entry directory.entry cells.entry marks.entry order.entry table.entry roots.entry words.entry bytes.entry places.entry out.entry
-
-abbrev pub on_exit : Pair → Pair → Pair → Pair → Pair → Pair → Pair → Pair → Pair → Pair → Pair → Pair → Pair → Buffers
-on_exit slots scalars list directory cells marks order table roots words bytes places out = lend slots.exit scalars.exit list.exit directory.exit cells.exit marks.exit order.exit table.exit roots.exit words.exit bytes.exit places.exit out.exit
 
 -- room for 1,024 slots, 65,536 cells, 64 roots, lists of 65,536 places, buffers of 524,288 bytes, the longest line; and for the words and bytes of the input
 pub record Roomy (input : List ℕ) (u : Buffers) : Type 0 where

@@ -1,4 +1,6 @@
 // Scripts (docs/SCRIPTS.md): every command performed, and its line written.
+#![tactic(auto)]
+
 pub mod lines;
 pub mod operands;
 
@@ -15,7 +17,7 @@ ghost use Rattle.commands.specs.Promise.{CommandedBy, lists};
 ghost use Rattle.script.specs.Reads.{called_is};
 ghost use Rattle.script.specs.Parse.{Called};
 ghost use Rattle.script.specs.Replay.{Play, acted, bytes_for, frames_for, lendable, numbered, opened_by, places_for, seatable, turn_by, words_for};
-ghost use Rattle.script.specs.Turns.{EndLine, Fronts, Goes, LargeLine, LendsWords, Placed, Plays, Roomy, RootLine, SessionReady, Starts, Turns, first_session, heap_room, layout_in, lend, lists_in, memory_at, moved_to, on_entry, on_exit, own_bytes, play_of, roomy, script_room, seated_in};
+ghost use Rattle.script.specs.Turns.{EndLine, Fronts, Goes, LargeLine, LendsWords, Placed, Plays, Roomy, RootLine, SessionReady, Starts, Turns, first_session, heap_room, layout_in, lend, lists_in, memory_at, moved_to, own_bytes, play_of, roomy, script_room, seated_in};
 
 use commands::{Operands, Performed, Shape, Turn};
 use heap::{Heap, Opened};
@@ -36,7 +38,7 @@ const LINE: usize = 1114279;
 
 // Between commands: the heap's record, how many roots there are, how many cells are lent, where the
 // layout lies in the input, where the next command stands, and where the text ends.
-#[derive(Drop)]
+#[derive(Clone, Copy)]
 pub struct Session {
     pub heap: Heap,
     pub count: usize,
@@ -49,7 +51,7 @@ pub struct Session {
 
 // Whether the first heap is open. Refused: the input begins with no layout. Short: a lent buffer is
 // too short.
-#[derive(Drop)]
+#[derive(Clone, Copy)]
 pub enum Started {
     Ready(Session),
     Refused,
@@ -58,7 +60,7 @@ pub enum Started {
 
 // What is read so far: the place behind it, how many numbers, how many words and how many of them,
 // the last, are of frames, and where the bytes lie.
-#[derive(Drop)]
+#[derive(Clone, Copy)]
 pub struct Reader {
     pub at: usize,
     pub count: usize,
@@ -72,7 +74,7 @@ pub struct Reader {
 // A command's operands: the numbers; how many words stand in the lent buffer, and how many of frames
 // behind them; where the bytes lie; and where the next command stands. Not known: there is no such
 // command, or an operand is missing.
-#[derive(Drop)]
+#[derive(Clone, Copy)]
 pub struct Command {
     pub operands: Operands,
     pub words: usize,
@@ -84,7 +86,7 @@ pub struct Command {
 }
 
 // How what is answered beside the word is shown: 0 not at all, 1 in decimal, 2 in hexadecimal.
-#[derive(Drop)]
+#[derive(Clone, Copy)]
 pub struct Forms {
     pub x: u64,
     pub y: u64,
@@ -94,7 +96,7 @@ pub struct Forms {
 }
 
 // How many words are lent, and up to where those of frames stand behind them.
-#[derive(Drop)]
+#[derive(Clone, Copy)]
 struct Span {
     words: usize,
     end: usize,
@@ -277,10 +279,10 @@ fn open_turn(
     out: &mut [u8],
     input: &[u8],
 ) -> Session
-    requires session_ready { SessionReady input.now (lend slots scalars list directory cells marks order table roots words bytes places out) p }
+    requires session_ready { SessionReady input.now (lend slots.now scalars.now list.now directory.now cells.now marks.old order.old table.old roots.now words.now bytes.now places.now out.old) p }
     requires placed { Placed input.now p (length words.now) k }
     requires end_in_bounds { p.end + 62 ≤ length out.old }
-    ensures { Goes input.now (opened_by (play_of input.now (on_entry slots scalars list directory cells marks order table roots words bytes places out) p) (opening_in k.operands (own_bytes input.now k)) (drop k.next input.now) (open_heap (opening_in k.operands (own_bytes input.now k)))) (on_entry slots scalars list directory cells marks order table roots words bytes places out) p (on_exit slots scalars list directory cells marks order table roots words bytes places out) result }
+    ensures { Goes input.now (opened_by (play_of input.now (lend slots.now scalars.now list.now directory.now cells.now marks.old order.old table.old roots.now words.now bytes.now places.now out.old) p) (opening_in k.operands (own_bytes input.now k)) (drop k.next input.now) (open_heap (opening_in k.operands (own_bytes input.now k)))) (lend slots.now scalars.now list.now directory.now cells.now marks.old order.old table.old roots.now words.now bytes.now places.now out.old) p (lend slots.now scalars.now list.now directory.now cells.now marks.new order.new table.new roots.now words.now bytes.now places.now out.new) result }
 {
     let o = k.operands;
     if !is_seatable(o) {
@@ -512,11 +514,11 @@ fn call_turn(
     out: &mut [u8],
     input: &[u8],
 ) -> Session
-    requires session_ready { SessionReady input.now (lend slots scalars list directory cells marks order table roots words bytes places out) p }
+    requires session_ready { SessionReady input.now (lend slots.old scalars.old list.old directory.old cells.old marks.old order.old table.now roots.now words.now bytes.old places.old out.old) p }
     requires s_value { (s ≡ shape_of code) × (code ≡ 0x00 → ⊥) × (code ≡ 0x0B → ⊥) }
     requires w_le_e { (w ≤ e) × (e ≤ length words.now) × (b ≤ length bytes.old) × (n ≤ 65536) × (s.memory ≡ 1 → b ≤ 524288) }
     requires at_lt_next { (p.at < next) × (next ≤ length input.now) × (p.end + 1114279 ≤ length out.old) }
-    ensures { Goes input.now (acted (play_of input.now (on_entry slots scalars list directory cells marks order table roots words bytes places out) p) code o (lists_in (on_entry slots scalars list directory cells marks order table roots words bytes places out) w e b n) (drop next input.now) (act_of code o (lists_in (on_entry slots scalars list directory cells marks order table roots words bytes places out) w e b n))) (on_entry slots scalars list directory cells marks order table roots words bytes places out) p (on_exit slots scalars list directory cells marks order table roots words bytes places out) result }
+    ensures { Goes input.now (acted (play_of input.now (lend slots.old scalars.old list.old directory.old cells.old marks.old order.old table.now roots.now words.now bytes.old places.old out.old) p) code o (lists_in (lend slots.old scalars.old list.old directory.old cells.old marks.old order.old table.now roots.now words.now bytes.old places.old out.old) w e b n) (drop next input.now) (act_of code o (lists_in (lend slots.old scalars.old list.old directory.old cells.old marks.old order.old table.now roots.now words.now bytes.old places.old out.old) w e b n))) (lend slots.old scalars.old list.old directory.old cells.old marks.old order.old table.now roots.now words.now bytes.old places.old out.old) p (lend slots.new scalars.new list.new directory.new cells.new marks.new order.new table.now roots.now words.now bytes.new places.new out.new) result }
 {
     let t = perform_in(
         p, code, o, w, e, b, n, slots, scalars, list, directory, cells, marks, order, table, words,
@@ -574,10 +576,10 @@ fn lent_turn(
     out: &mut [u8],
     input: &[u8],
 ) -> Session
-    requires session_ready { SessionReady input.now (lend slots scalars list directory cells marks order table roots words bytes places out) p }
+    requires session_ready { SessionReady input.now (lend slots.old scalars.old list.old directory.old cells.old marks.old order.old table.now roots.now words.old bytes.old places.old out.old) p }
     requires placed { Placed input.now p (length words.old) k }
     requires known_value { (k.known ≡ true) × (code ≡ 0x00 → ⊥) × (code ≡ 0x0B → ⊥) × (p.end + 1114279 ≤ length out.old) }
-    ensures { Goes input.now (turn_by (play_of input.now (on_entry slots scalars list directory cells marks order table roots words bytes places out) p) code (called_is input.now words.old k)) (on_entry slots scalars list directory cells marks order table roots words bytes places out) p (on_exit slots scalars list directory cells marks order table roots words bytes places out) result }
+    ensures { Goes input.now (turn_by (play_of input.now (lend slots.old scalars.old list.old directory.old cells.old marks.old order.old table.now roots.now words.old bytes.old places.old out.old) p) code (called_is input.now words.old k)) (lend slots.old scalars.old list.old directory.old cells.old marks.old order.old table.now roots.now words.old bytes.old places.old out.old) p (lend slots.new scalars.new list.new directory.new cells.new marks.new order.new table.now roots.now words.new bytes.new places.new out.new) result }
 {
     let s = commands::shape_of(code);
     let o = k.operands;
@@ -616,9 +618,9 @@ fn turn(
     out: &mut [u8],
     input: &[u8],
 ) -> Session
-    requires session_ready { SessionReady input.now (lend slots scalars list directory cells marks order table roots words bytes places out) p }
+    requires session_ready { SessionReady input.now (lend slots.old scalars.old list.old directory.old cells.old marks.old order.old table.old roots.old words.old bytes.old places.old out.old) p }
     requires at_in_bounds { (p.at < length input.now) × (p.end + 1114279 ≤ length out.old) }
-    ensures { Turns input.now (on_entry slots scalars list directory cells marks order table roots words bytes places out) p (on_exit slots scalars list directory cells marks order table roots words bytes places out) result }
+    ensures { Turns input.now (lend slots.old scalars.old list.old directory.old cells.old marks.old order.old table.old roots.old words.old bytes.old places.old out.old) p (lend slots.new scalars.new list.new directory.new cells.new marks.new order.new table.new roots.new words.new bytes.new places.new out.new) result }
 {
     let at = p.at;
     let k = operands::read_call(input, at, words);
@@ -659,8 +661,8 @@ pub fn run(
     out: &mut [u8],
     input: &[u8],
 ) -> Session
-    requires { SessionReady input.now (lend slots scalars list directory cells marks order table roots words bytes places out) p }
-    ensures { Plays input.now (on_entry slots scalars list directory cells marks order table roots words bytes places out) p (on_exit slots scalars list directory cells marks order table roots words bytes places out) result }
+    requires { SessionReady input.now (lend slots.old scalars.old list.old directory.old cells.old marks.old order.old table.old roots.old words.old bytes.old places.old out.old) p }
+    ensures { Plays input.now (lend slots.old scalars.old list.old directory.old cells.old marks.old order.old table.old roots.old words.old bytes.old places.old out.old) p (lend slots.new scalars.new list.new directory.new cells.new marks.new order.new table.new roots.new words.new bytes.new places.new out.new) result }
 {
     let mut q = moved(p, p.count, p.at, 0);
     while q.at < input.len() {
@@ -778,8 +780,8 @@ fn start_in(
     out: &[u8],
     input: &[u8],
 ) -> Started
-    requires { Roomy input.now (lend slots scalars list directory cells marks order table roots words bytes places out) }
-    ensures { Starts input.now (on_entry slots scalars list directory cells marks order table roots words bytes places out) result (on_exit slots scalars list directory cells marks order table roots words bytes places out) }
+    requires { Roomy input.now (lend slots.now scalars.now list.now directory.now cells.now marks.old order.old table.old roots.now words.now bytes.now places.now out.now) }
+    ensures { Starts input.now (lend slots.now scalars.now list.now directory.now cells.now marks.old order.old table.old roots.now words.now bytes.now places.now out.now) result (lend slots.now scalars.now list.now directory.now cells.now marks.new order.new table.new roots.now words.now bytes.now places.now out.now) }
 {
     let weights = Weights {
         slot: 64,
@@ -833,7 +835,7 @@ pub fn start(
     out: &[u8],
     input: &[u8],
 ) -> Started
-    ensures { Starts input.now (on_entry slots scalars list directory cells marks order table roots words bytes places out) result (on_exit slots scalars list directory cells marks order table roots words bytes places out) }
+    ensures { Starts input.now (lend slots.now scalars.now list.now directory.now cells.now marks.old order.old table.old roots.now words.now bytes.now places.now out.now) result (lend slots.now scalars.now list.now directory.now cells.now marks.new order.new table.new roots.now words.now bytes.now places.now out.now) }
 {
     if !heap_room(
         slots.len(),

@@ -2,10 +2,9 @@
 use Prim.Native.Nat.{ℕ, ◌+◌, ◌-◌, ◌≤◌, ◌<◌}
 use mathlib.Core.Path.{◌≡◌, refl, sym, ap, ◌∙◌}
 use mathlib.Core.Bool.{Bool, true, false, cond}
-use mathlib.Core.List.{List, [], ◌∷◌, ◌++◌}
+use mathlib.Core.List.{List, [], ◌∷◌}
 use mathlib.Core.Option.{Option, none, some}
 use native.Mathlib.Omega.{arith}
-use native.Mathlib.Numerals.{add-one}
 use lib.Dec.{eqb, leb}
 use lib.ListN.{length, get_or, take, drop, length-drop}
 use lib.Seq.{drop-drop, drop-length, length-take-le, take_all}
@@ -15,8 +14,8 @@ use Rattle.layout.specs.Layout.{Layout}
 use Rattle.map_store.specs.Store.{signed64}
 use Rattle.text.specs.Puts.{Puts}
 use Rattle.text.proofs.DigitsLaws.{length_digits}
-use Rattle.text.proofs.PutsLaws.{length-printed, puts-same}
-use Rattle.model.specs.Calls.{Call, collect, new_array, new_box, read_box}
+use Rattle.text.proofs.PutsLaws.{length-printed}
+use Rattle.model.specs.Calls.{collect, new_array, new_box, read_box}
 use Rattle.model.specs.Model.{Model}
 use Rattle.model.specs.Step.{step}
 use Rattle.model.specs.Callsheet.{Sheet, answer_word, call_of, called, commanded, digits, little_endian, operand_bytes, present_operands, printed, rooted, unknown}
@@ -24,7 +23,7 @@ use Rattle.heap.specs.State.{State, model_of}
 use Rattle.sheet.specs.declared.SheetLine.{SheetLine}
 use Rattle.sheet.specs.declared.Operands.{Operands}
 use Rattle.sheet.specs.declared.Operands.TheVariants.{Bytes, Missing}
-use Rattle.sheet.specs.Turns.{Supplied, operands_is, turn_by, turn_of}
+use Rattle.sheet.specs.Turns.{operands_is, turn_by, turn_of}
 use Rattle.sheet.specs.Promise.{Commands, Roots, Shows, Turns, sheet_of}
 use Rattle.sheet.proofs.OperandLaws.{supplied_size}
 

@@ -1,9 +1,9 @@
 -- The heap that document 01's program opens. Assumes nothing.
 use Prim.Native.Nat.{ℕ, ◌*◌, ◌≤◌, ◌<◌, min}
 use mathlib.Core.Path.{◌≡◌, refl, sym, ap, ap₂, ◌∙◌}
-use mathlib.Core.Bool.{Bool, true, false, ◌&&◌}
+use mathlib.Core.Bool.{Bool, true, false}
 use mathlib.Core.List.{List, [], ◌∷◌}
-use mathlib.Core.Option.{Option, none, some}
+use mathlib.Core.Option.{some}
 use native.Mathlib.Omega.{arith}
 use lib.Dec.{leb}
 use lib.ListN.{length, take, length-take}
@@ -12,7 +12,6 @@ use Rattle.history.proofs.Facts.{leb_no, leb_yes}
 use Rattle.heap_slots.proofs.Cases.{by_cases, lt_or_le}
 use Rattle.layout.specs.Layout as Layout-
 use Rattle.layout.specs.Sections.{layout_of}
-use Rattle.model.specs.Model.{Model}
 use Rattle.model.specs.Opening.{Opening, open_heap, open_with, sizes_fit}
 use Rattle.model.specs.Terms.{is_some}
 use Rattle.model.specs.Callsheet.{sheet_heap, sheet_opening, sheet_text}

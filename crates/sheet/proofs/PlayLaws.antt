@@ -1,16 +1,14 @@
 -- All commands, one after another: the text put so far, and that of the commands left, come to the whole. Assumes nothing.
 use Prim.Native.Nat.{ℕ, ◌+◌, ◌-◌, ◌*◌, ◌≤◌, ◌<◌}
 use mathlib.Core.Path.{◌≡◌, refl, sym, ap, ◌∙◌}
-use mathlib.Core.List.{List, [], ◌∷◌, ◌++◌, append_assoc, append-nil}
+use mathlib.Core.List.{List, [], ◌++◌, append_assoc, append-nil}
 use native.Mathlib.Omega.{arith}
 use native.Mathlib.Numerals.{add-one}
 use lib.ListN.{length, get_or, take, drop, drop_of_length-le}
 use lib.Seq.{drop-cons, length-take-le}
-use Rattle.layout.specs.Layout.{Layout}
 use Rattle.model.specs.Callsheet.{Sheet}
-use Rattle.heap.specs.State.{State}
 use Rattle.sheet.specs.Turns.{text_from, turn_of}
-use Rattle.sheet.specs.Promise.{Prints, Turns, sheet_of}
+use Rattle.sheet.specs.Promise.{Prints, Turns}
 use Rattle.sheet.proofs.TurnLaws.{text-none, text_turn}
 use Rattle.text.proofs.PutsLaws.{drop-later}
 use Rattle.sheet.proofs.CommandLaws.{turn_short}

@@ -1,18 +1,16 @@
 -- What a line shows of a call. Assumes nothing.
 use Prim.Native.Nat.{ℕ, ◌+◌, ◌≤◌, ◌<◌}
-use mathlib.Core.Path.{◌≡◌, refl, sym, ap, ◌∙◌}
-use mathlib.Core.Bool.{cond}
-use mathlib.Core.List.{List, [], ◌∷◌, ◌++◌}
+use mathlib.Core.Path.{◌≡◌, refl, ap, ◌∙◌}
+use mathlib.Core.List.{List}
 use native.Mathlib.Omega.{arith}
 use native.Mathlib.Numerals.{add-one}
-use lib.Dec.{leb}
-use lib.ListN.{length, set, take, length-set}
+use lib.ListN.{length, set}
 use lib.Seq.{take-suc-set}
 use Rattle.layout.specs.Layout.{Layout}
 use Rattle.map_store.specs.Store as Store
 use Rattle.words.specs.Word as Word
 use Rattle.history.proofs.Facts.{leb_no, leb_yes}
-use Rattle.history.proofs.Lift.{Seen, seen}
+use Rattle.history.proofs.Lift.{Seen}
 use Rattle.model.specs.Calls.{Call}
 use Rattle.model.specs.Callsheet.{answer_word, reply_word}
 use Rattle.heap.specs.declared.Heap.{Heap}

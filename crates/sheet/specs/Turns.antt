@@ -1,5 +1,5 @@
 -- One command of the program `callsheet` (document 01): what it prints, the sheet afterwards, and the input left.
-use Rattle.std.specs.Prelude.{ℕ, ◌≤◌, ◌≡◌, List, [], ◌∷◌, length, drop}
+use Rattle.std.specs.Prelude.{ℕ, ◌≤◌, ◌≡◌, List, [], length, drop}
 use Rattle.std.proofs.Math.Option.{Option, none, some}
 use Rattle.model.specs.Callsheet.{Sheet, commanded, operand_bytes, present_operands, sheet_from, unknown}
 use Rattle.sheet.specs.declared.Operands.{Operands}

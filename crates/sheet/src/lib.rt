@@ -1,4 +1,6 @@
 // Document 01's program `callsheet` over lent bytes.
+#![tactic(auto)]
+
 ghost use Rattle.std.specs.Prelude.{◌≡◌, cond, List, [], ◌∷◌, ℕ, ◌+◌, ◌*◌, ◌≤◌, ◌<◌, min, leb, length, get_or, take, drop};
 ghost use Rattle.layout.specs.Layout.{Layout};
 ghost use Rattle.layout.specs.Sections.{layout_of};
@@ -7,7 +9,7 @@ ghost use Rattle.model.specs.Model.{Model};
 ghost use Rattle.model.specs.Calls as Calls;
 ghost use Rattle.model.specs.Callsheet.{call_of, little_endian, operand_bytes, present_operands, sheet_text};
 ghost use Rattle.heap.specs.Answers.{number_of, reading_is};
-ghost use Rattle.heap.specs.State.{after, before, lent};
+ghost use Rattle.heap.specs.State.{state};
 ghost use Rattle.heap.specs.Good.{Good, Ready};
 ghost use Rattle.sheet.specs.Turns.{Supplied, operands_is, text_from};
 ghost use Rattle.sheet.specs.Promise.{Answers, Commands, Prints, Rooted, Roots, Shows, Turns, sheet_of, shown_of};
@@ -18,21 +20,21 @@ use heap::{Heap, Opened, Reading, Refusal};
 use model::Weights;
 
 // The operands of a command: so many bytes; or the command is unknown, or one is missing.
-#[derive(Drop)]
+#[derive(Clone, Copy)]
 pub enum Operands {
     Bytes(usize),
     Missing,
 }
 
 // The program's answer: so many bytes of text, or the lent buffer is too short.
-#[derive(Drop)]
+#[derive(Clone, Copy)]
 pub enum Printed {
     Text(usize),
     Short,
 }
 
 // What a line shows of a call, and the heap's record after it.
-#[derive(Drop)]
+#[derive(Clone, Copy)]
 pub struct SheetLine {
     pub heap: Heap,
     pub word: u64,
@@ -40,14 +42,14 @@ pub struct SheetLine {
 }
 
 // A call's line: the heap's record after it, and where the text ends.
-#[derive(Drop)]
+#[derive(Clone, Copy)]
 pub struct Lined {
     pub heap: Heap,
     pub end: usize,
 }
 
 // A root's line: how many roots there are after it, and where the text ends.
-#[derive(Drop)]
+#[derive(Clone, Copy)]
 pub struct Noted {
     pub count: usize,
     pub end: usize,
@@ -55,7 +57,7 @@ pub struct Noted {
 
 // Between commands: the heap's record, how many roots there are, where the next command stands, and
 // where the text ends.
-#[derive(Drop)]
+#[derive(Clone, Copy)]
 pub struct Progress {
     pub heap: Heap,
     pub count: usize,
@@ -164,9 +166,9 @@ fn call_box(
     cells: &[u64],
     operands: &[u8],
 ) -> SheetLine
-    requires good { Good (lent heap slots scalars list directory cells) }
+    requires good { Good (state heap slots.old scalars.now list.now directory.now cells.now) }
     requires in_bounds { 8 ≤ length operands.now }
-    ensures { (l : Layout) → Shows l (Calls.new_box (little_endian (take 8 operands.now))) (before heap slots scalars list directory cells) result (after result.heap slots scalars list directory cells) }
+    ensures { (l : Layout) → Shows l (Calls.new_box (little_endian (take 8 operands.now))) (state heap slots.old scalars.now list.now directory.now cells.now) result (state result.heap slots.new scalars.now list.now directory.now cells.now) }
 {
     let w = text::read_little(operands, 0, 8);
     let m = heap_allocation::new_box(heap, slots, scalars, list, directory, cells, w);
@@ -184,9 +186,9 @@ fn call_array(
     cells: &mut [u64],
     operands: &[u8],
 ) -> SheetLine
-    requires good { Good (lent heap slots scalars list directory cells) }
+    requires good { Good (state heap slots.old scalars.now list.now directory.old cells.old) }
     requires in_bounds { 9 ≤ length operands.now }
-    ensures { (l : Layout) → Shows l (Calls.new_array (get_or operands.now 0 0) (signed64 (little_endian (take 8 (drop 1 operands.now))))) (before heap slots scalars list directory cells) result (after result.heap slots scalars list directory cells) }
+    ensures { (l : Layout) → Shows l (Calls.new_array (get_or operands.now 0 0) (signed64 (little_endian (take 8 (drop 1 operands.now))))) (state heap slots.old scalars.now list.now directory.old cells.old) result (state result.heap slots.new scalars.now list.now directory.new cells.new) }
 {
     let n = words::signed_of(text::read_little(operands, 1, 8));
     let t = operands[0] as u64;
@@ -205,9 +207,9 @@ fn call_read(
     cells: &[u64],
     operands: &[u8],
 ) -> SheetLine
-    requires good { Good (lent heap slots scalars list directory cells) }
+    requires good { Good (state heap slots.now scalars.now list.now directory.now cells.now) }
     requires in_bounds { 8 ≤ length operands.now }
-    ensures { (l : Layout) → Shows l (Calls.read_box (little_endian (take 8 operands.now))) (before heap slots scalars list directory cells) result (before result.heap slots scalars list directory cells) }
+    ensures { (l : Layout) → Shows l (Calls.read_box (little_endian (take 8 operands.now))) (state heap slots.now scalars.now list.now directory.now cells.now) result (state result.heap slots.now scalars.now list.now directory.now cells.now) }
 {
     let w = text::read_little(operands, 0, 8);
     let a = heap_access::readings::read_box(heap, slots, scalars, list, directory, cells, w);
@@ -228,8 +230,8 @@ fn call_collect(
     table: &[u64],
     roots: &[u64],
 ) -> SheetLine
-    requires { Ready (lent heap slots scalars list directory cells) marks.old order.old layout.now table.now }
-    ensures shows { Shows (layout_of layout.now) (Calls.collect roots.now []) (before heap slots scalars list directory cells) result (after result.heap slots scalars list directory cells) }
+    requires { Ready (state heap slots.old scalars.old list.old directory.now cells.now) marks.old order.old layout.now table.now }
+    ensures shows { Shows (layout_of layout.now) (Calls.collect roots.now []) (state heap slots.old scalars.old list.old directory.now cells.now) result (state result.heap slots.new scalars.new list.new directory.now cells.now) }
     ensures marks_unchanged { marks.new ≡ marks.old }
     ensures order_unchanged { order.new ≡ order.old }
 {
@@ -269,9 +271,9 @@ fn call(
     command: u8,
     operands: &[u8],
 ) -> SheetLine
-    requires ready { Ready (lent heap slots scalars list directory cells) marks.old order.old layout.now table.now }
+    requires ready { Ready (state heap slots.old scalars.old list.old directory.old cells.old) marks.old order.old layout.now table.now }
     requires supplied { Supplied command operands.now }
-    ensures shows { Shows (layout_of layout.now) (call_of command operands.now roots.now) (before heap slots scalars list directory cells) result (after result.heap slots scalars list directory cells) }
+    ensures shows { Shows (layout_of layout.now) (call_of command operands.now roots.now) (state heap slots.old scalars.old list.old directory.old cells.old) result (state result.heap slots.new scalars.new list.new directory.new cells.new) }
     ensures marks_unchanged { marks.new ≡ marks.old }
     ensures order_unchanged { order.new ≡ order.old }
 {
@@ -305,12 +307,12 @@ fn call_turn(
     out: &mut [u8],
     end: usize,
 ) -> Lined
-    requires ready { Ready (lent heap slots scalars list directory cells) marks.old order.old layout.now table.now }
+    requires ready { Ready (state heap slots.old scalars.old list.old directory.old cells.old) marks.old order.old layout.now table.now }
     requires supplied { Supplied command operands.now }
     requires fact { command ≡ 11 → ⊥ }
     requires end_in_bounds { end + 62 ≤ length out.old }
-    ensures commands { Commands (sheet_of (layout_of layout.now) (before heap slots scalars list directory cells) roots.now) command operands.now out.old end (sheet_of (layout_of layout.now) (after result.heap slots scalars list directory cells) roots.now) out.new result.end }
-    ensures ready_2 { Ready (after result.heap slots scalars list directory cells) marks.new order.new layout.now table.now }
+    ensures commands { Commands (sheet_of (layout_of layout.now) (state heap slots.old scalars.old list.old directory.old cells.old) roots.now) command operands.now out.old end (sheet_of (layout_of layout.now) (state result.heap slots.new scalars.new list.new directory.new cells.new) roots.now) out.new result.end }
+    ensures ready_2 { Ready (state result.heap slots.new scalars.new list.new directory.new cells.new) marks.new order.new layout.now table.now }
 {
     let s = call(
         heap, slots, scalars, list, directory, cells, marks, order, layout, table, roots, command,
@@ -363,12 +365,12 @@ fn turn(
     out: &mut [u8],
     end: usize,
 ) -> Progress
-    requires ready { Ready (lent heap slots scalars list directory cells) marks.old order.old layout.now table.now }
+    requires ready { Ready (state heap slots.old scalars.old list.old directory.old cells.old) marks.old order.old layout.now table.now }
     requires rooted { Rooted roots.old count }
     requires at_in_bounds { at < length input.now }
     requires end_in_bounds { end + 62 ≤ length out.old }
-    ensures turns { Turns (sheet_of (layout_of layout.now) (before heap slots scalars list directory cells) (take count roots.old)) input.now at out.old end (sheet_of (layout_of layout.now) (after result.heap slots scalars list directory cells) (take result.count roots.new)) result.at out.new result.end }
-    ensures ready_2 { Ready (after result.heap slots scalars list directory cells) marks.new order.new layout.now table.now }
+    ensures turns { Turns (sheet_of (layout_of layout.now) (state heap slots.old scalars.old list.old directory.old cells.old) (take count roots.old)) input.now at out.old end (sheet_of (layout_of layout.now) (state result.heap slots.new scalars.new list.new directory.new cells.new) (take result.count roots.new)) result.at out.new result.end }
+    ensures ready_2 { Ready (state result.heap slots.new scalars.new list.new directory.new cells.new) marks.new order.new layout.now table.now }
     ensures rooted_2 { Rooted roots.new result.count }
 {
     let account = heap.account;
@@ -439,10 +441,10 @@ fn play(
     input: &[u8],
     out: &mut [u8],
 ) -> usize
-    requires ready { Ready (lent heap slots scalars list directory cells) marks.old order.old layout.now table.now }
+    requires ready { Ready (state heap slots.old scalars.old list.old directory.old cells.old) marks.old order.old layout.now table.now }
     requires in_bounds { 64 ≤ length roots.old }
     requires input_in_bounds { length input.now * 62 ≤ length out.old }
-    ensures { Prints (text_from (sheet_of (layout_of layout.now) (before heap slots scalars list directory cells) []) input.now) out.old out.new result }
+    ensures { Prints (text_from (sheet_of (layout_of layout.now) (state heap slots.old scalars.old list.old directory.old cells.old) []) input.now) out.old out.new result }
 {
     let mut h = heap;
     let mut count: usize = 0;

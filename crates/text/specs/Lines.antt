@@ -1,5 +1,5 @@
 -- The parts of a line (document 01, the program `callsheet`: "A line holds command, refusal or 0, the word answered .. as 16 hexadecimal digits, used in decimal").
-use Rattle.std.specs.Prelude.{ℕ, List, [], ◌∷◌, ◌++◌}
+use Rattle.std.specs.Prelude.{ℕ, List, ◌∷◌, ◌++◌}
 use Rattle.model.specs.Callsheet.{decimal, digits}
 
 -- what follows the command

@@ -1,5 +1,7 @@
 // Lines of text written into a lent buffer, and little-endian numbers read from one. A writer puts
 // its text at `at` and answers the place behind it, where the next text goes.
+#![tactic(auto)]
+
 ghost use Rattle.std.specs.Prelude.{◌≡◌, [], ◌∷◌, ◌+◌, ◌≤◌, ◌<◌, length};
 ghost use Rattle.model.specs.Callsheet.{digit, digits, decimal, printed};
 ghost use Rattle.text.specs.Puts.{Puts, ReadsLittle};

@@ -3,13 +3,17 @@ use borrow.Author.Rules.{rules}
 use Rattle.answers.proofs.bit.Statement.{statement}
 use Rattle.answers.proofs.bit.Tie as tie
 
-returns : tie.Need-returns
+returns-then-b : tie.Need-returns-then-b
 unfolding bit
-returns c = search rules
+returns-then-b c = search rules
 
-returns-2 : tie.Need-returns-2
+returns-else-b : tie.Need-returns-else-b
 unfolding bit
-returns-2 c = search rules
+returns-else-b c = search rules
 
 pub bit_spec : {M : Type 1} → statement M
-bit_spec = tie.close (tie.spec returns returns-2)
+bit_spec =
+    tie.close
+    (tie.spec
+    returns-then-b
+    returns-else-b)

@@ -4,27 +4,33 @@ use borrow.Author.Rules.{rules}
 use Rattle.answers.proofs.collected.Statement.{statement}
 use Rattle.answers.proofs.collected.Tie as tie
 
-enum-known-a : tie.Need-enum-known-a
-enum-known-a c = search rules
+enum_known-a : tie.Need-enum_known-a
+enum_known-a c = search rules
 
 shows-requires : tie.Need-shows-requires
 shows-requires c κs = search rules
 
-enum-known-a-2 : tie.Need-enum-known-a-2
-enum-known-a-2 c = search rules
+enum_known-a-in-Refused-1 : tie.Need-enum_known-a-in-Refused-1
+enum_known-a-in-Refused-1 c = search rules
 
 refused-requires : tie.Need-refused-requires
 refused-requires c κs = search rules
 
-returns : tie.Need-returns
+returns-in-Done : tie.Need-returns-in-Done
 unfolding shown_of with_lent answer_shown reply_shown collection_is
-returns c = λ places. rw (c.before.before.a.given.1, c.shows.ensures)
+returns-in-Done c = λ places. rw (c.in-Done.is, c.shows.ensures)
 
-returns-2 : tie.Need-returns-2
+returns-in-Refused : tie.Need-returns-in-Refused
 unfolding shown_of with_lent answer_shown reply_shown collection_is
-returns-2 c = λ places. rw (c.before.before.a2.given.1, c.refused.ensures)
+returns-in-Refused c = λ places. rw (c.in-Refused.is, c.refused.ensures)
 
 pub collected_spec : {M : Type 1} → statement M
 collected_spec =
     tie.close
-    (tie.spec enum-known-a shows-requires enum-known-a-2 refused-requires returns returns-2)
+    (tie.spec
+    enum_known-a
+    shows-requires
+    enum_known-a-in-Refused-1
+    refused-requires
+    returns-in-Done
+    returns-in-Refused)

@@ -4,58 +4,58 @@ use borrow.Author.Rules.{rules}
 use Rattle.answers.proofs.cursor.Statement.{statement}
 use Rattle.answers.proofs.cursor.Tie as tie
 
-enum-known-a : tie.Need-enum-known-a
-enum-known-a c = search rules
+enum_known-a : tie.Need-enum_known-a
+enum_known-a c = search rules
 
 shows-requires : tie.Need-shows-requires
 shows-requires c κs = search rules
 
-enum-known-a-2 : tie.Need-enum-known-a-2
-enum-known-a-2 c = search rules
+enum_known-a-in-Map-1 : tie.Need-enum_known-a-in-Map-1
+enum_known-a-in-Map-1 c = search rules
 
-is-seq-requires : tie.Need-is-seq-requires
-is-seq-requires c κs = search rules
+is_seq-requires : tie.Need-is_seq-requires
+is_seq-requires c κs = search rules
 
-seq-or-zero-requires : tie.Need-seq-or-zero-requires
-seq-or-zero-requires c κs = search rules
+seq_or_zero-requires : tie.Need-seq_or_zero-requires
+seq_or_zero-requires c κs = search rules
 
-cast-shows : tie.Need-overflow-cast-shows
-cast-shows c = search rules
+overflow_cast-c : tie.Need-overflow_cast-c
+overflow_cast-c c = search rules
 
-shows-requires-2 : tie.Need-shows-requires-2
-shows-requires-2 c κs = search rules
+shows-requires-in-Map : tie.Need-shows-requires-in-Map
+shows-requires-in-Map c κs = search rules
 
-enum-known-a-3 : tie.Need-enum-known-a-3
-enum-known-a-3 c = search rules
+enum_known-a-in-Refused-1 : tie.Need-enum_known-a-in-Refused-1
+enum_known-a-in-Refused-1 c = search rules
 
 refused-requires : tie.Need-refused-requires
 refused-requires c κs = search rules
 
-returns : tie.Need-returns
+returns-in-Index : tie.Need-returns-in-Index
 unfolding shown_of with_lent answer_shown reply_shown cursor_seen
-returns c = rw (c.before.before.a.given.1, c.shows.ensures)
+returns-in-Index c = rw (c.in-Index.is, c.shows.ensures)
 
-returns-2 : tie.Need-returns-2
+returns-in-Map : tie.Need-returns-in-Map
 unfolding shown_of with_lent answer_shown reply_shown cursor_seen
-returns-2 c = rw (c.before.before.before.before.before.a2.given.1, c.shows2.ensures, c.before.before.before.is-seq.ensures, c.before.before.seq-or-zero.ensures)
+returns-in-Map c = rw (c.in-Map.is, c.shows-in-Map.ensures, c.is_seq.ensures, c.seq_or_zero.ensures)
 
-returns-3 : tie.Need-returns-3
+returns-in-Refused : tie.Need-returns-in-Refused
 unfolding shown_of with_lent answer_shown reply_shown cursor_seen
-returns-3 c = rw (c.before.before.a3.given.1, c.refused.ensures)
+returns-in-Refused c = rw (c.in-Refused.is, c.refused.ensures)
 
 pub cursor_spec : {M : Type 1} → statement M
 cursor_spec =
     tie.close
     (tie.spec
-    enum-known-a
+    enum_known-a
     shows-requires
-    enum-known-a-2
-    is-seq-requires
-    seq-or-zero-requires
-    cast-shows
-    shows-requires-2
-    enum-known-a-3
+    enum_known-a-in-Map-1
+    is_seq-requires
+    seq_or_zero-requires
+    overflow_cast-c
+    shows-requires-in-Map
+    enum_known-a-in-Refused-1
     refused-requires
-    returns
-    returns-2
-    returns-3)
+    returns-in-Index
+    returns-in-Map
+    returns-in-Refused)

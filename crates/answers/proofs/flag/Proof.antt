@@ -11,7 +11,12 @@ shows-requires c κs = search rules
 
 returns : tie.Need-returns
 unfolding shown_of with_lent answer_shown reply_shown
-returns c = rw (c.shows.ensures, c.before.bit.ensures)
+returns c = rw (c.shows.ensures, c.bit.ensures)
 
 pub flag_spec : {M : Type 1} → statement M
-flag_spec = tie.close (tie.spec bit-requires shows-requires returns)
+flag_spec =
+    tie.close
+    (tie.spec
+    bit-requires
+    shows-requires
+    returns)

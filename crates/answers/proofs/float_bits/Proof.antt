@@ -4,7 +4,7 @@ use mathlib.Core.Bool.{true, false}
 use borrow.Author.Rules.{rules}
 use lib.Dec.{T}
 use lib.Ieee as Ieee
-use lib.Ieee.{Float, nan, inf, fin, binary64}
+use lib.Ieee.{Float, nan, inf, fin}
 use lib.Ieee.Compare.{differs_from_itself, nan_differs}
 use Rattle.answers.proofs.float_bits.Statement.{statement}
 use Rattle.answers.proofs.float_bits.Tie as tie
@@ -15,15 +15,20 @@ number_of nan e = sym nan_differs ∙ e
 number_of (inf s) e = refl
 number_of (fin s m k) e = refl
 
-returns : tie.Need-returns
+returns-then-f : tie.Need-returns-then-f
 unfolding Ieee.to_bits
-returns c = rw (differs_from_itself c.before.args.f (subst T (sym c.if1.true) tt))
+returns-then-f c = rw (differs_from_itself c.args.f (subst T (sym c.if-f.true) tt))
 
-float-to-bits-result : tie.Need-float-to-bits-result
-float-to-bits-result c = rw (number_of c.before.args.f c.if1.false) tt
+float_to_bits-result : tie.Need-float_to_bits-result
+float_to_bits-result c = rw (number_of c.args.f c.if-f.false) tt
 
-returns-2 : tie.Need-returns-2
-returns-2 c = search rules
+returns : tie.Need-returns
+returns c = search rules
 
 pub float_bits_spec : {M : Type 1} → statement M
-float_bits_spec = tie.close (tie.spec returns float-to-bits-result returns-2)
+float_bits_spec =
+    tie.close
+    (tie.spec
+    returns-then-f
+    float_to_bits-result
+    returns)

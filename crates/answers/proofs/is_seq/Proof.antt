@@ -3,19 +3,25 @@ use borrow.Author.Rules.{rules}
 use Rattle.answers.proofs.is_seq.Statement.{statement}
 use Rattle.answers.proofs.is_seq.Tie as tie
 
-enum_told : tie.Need-enum-told
-enum_told c = search rules
+enum_told-1 : tie.Need-enum_told-1
+enum_told-1 c = search rules
 
-enum-known-l : tie.Need-enum-known-l
-enum-known-l c = search rules
+enum_known-l : tie.Need-enum_known-l
+enum_known-l c = search rules
 
-returns : tie.Need-returns
+returns-in-Never : tie.Need-returns-in-Never
 unfolding yielded
-returns c = rw (c.enum_told.given.1)
+returns-in-Never c = rw c.in-Never.is
 
-returns-2 : tie.Need-returns-2
+returns-in-Seq : tie.Need-returns-in-Seq
 unfolding yielded
-returns-2 c = rw (c.before.l.given.1)
+returns-in-Seq c = rw c.in-Seq.is
 
 pub is_seq_spec : {M : Type 1} → statement M
-is_seq_spec = tie.close (tie.spec enum_told enum-known-l returns returns-2)
+is_seq_spec =
+    tie.close
+    (tie.spec
+    enum_told-1
+    enum_known-l
+    returns-in-Never
+    returns-in-Seq)

@@ -3,151 +3,151 @@ use borrow.Author.Rules.{rules}
 use Rattle.answers.proofs.kind_number.Statement.{statement}
 use Rattle.answers.proofs.kind_number.Tie as tie
 
-enum_told : tie.Need-enum-told
-enum_told c = search rules
+enum_told-1 : tie.Need-enum_told-1
+enum_told-1 c = search rules
 
-enum-told-2 : tie.Need-enum-told-2
-enum-told-2 c = search rules
+enum_told-in-String : tie.Need-enum_told-in-String
+enum_told-in-String c = search rules
 
-enum-told-3 : tie.Need-enum-told-3
-enum-told-3 c = search rules
+enum_told-in-Integer : tie.Need-enum_told-in-Integer
+enum_told-in-Integer c = search rules
 
-enum-told-4 : tie.Need-enum-told-4
-enum-told-4 c = search rules
+enum_told-in-Cell : tie.Need-enum_told-in-Cell
+enum_told-in-Cell c = search rules
 
-enum-told-5 : tie.Need-enum-told-5
-enum-told-5 c = search rules
+enum_told-in-Error : tie.Need-enum_told-in-Error
+enum_told-in-Error c = search rules
 
-enum-told-6 : tie.Need-enum-told-6
-enum-told-6 c = search rules
+enum_told-in-Box : tie.Need-enum_told-in-Box
+enum_told-in-Box c = search rules
 
-enum-told-7 : tie.Need-enum-told-7
-enum-told-7 c = search rules
+enum_told-in-Array : tie.Need-enum_told-in-Array
+enum_told-in-Array c = search rules
 
-enum-told-8 : tie.Need-enum-told-8
-enum-told-8 c = search rules
+enum_told-in-Map : tie.Need-enum_told-in-Map
+enum_told-in-Map c = search rules
 
-enum-told-9 : tie.Need-enum-told-9
-enum-told-9 c = search rules
+enum_told-in-Struct : tie.Need-enum_told-in-Struct
+enum_told-in-Struct c = search rules
 
-enum-told-10 : tie.Need-enum-told-10
-enum-told-10 c = search rules
+enum_told-in-Function : tie.Need-enum_told-in-Function
+enum_told-in-Function c = search rules
 
-enum-told-11 : tie.Need-enum-told-11
-enum-told-11 c = search rules
+enum_told-in-Iterator : tie.Need-enum_told-in-Iterator
+enum_told-in-Iterator c = search rules
 
-enum-told-12 : tie.Need-enum-told-12
-enum-told-12 c = search rules
+enum_told-in-Coroutine : tie.Need-enum_told-in-Coroutine
+enum_told-in-Coroutine c = search rules
 
-enum-told-13 : tie.Need-enum-told-13
-enum-told-13 c = search rules
+enum_told-in-Truth : tie.Need-enum_told-in-Truth
+enum_told-in-Truth c = search rules
 
-enum-told-14 : tie.Need-enum-told-14
-enum-told-14 c = search rules
+enum_told-in-Float : tie.Need-enum_told-in-Float
+enum_told-in-Float c = search rules
 
-enum-told-15 : tie.Need-enum-told-15
-enum-told-15 c = search rules
+enum_told-in-Character : tie.Need-enum_told-in-Character
+enum_told-in-Character c = search rules
 
-enum-told-16 : tie.Need-enum-told-16
-enum-told-16 c = search rules
+enum_told-in-Dead : tie.Need-enum_told-in-Dead
+enum_told-in-Dead c = search rules
 
-returns : tie.Need-returns
+returns-in-Nil : tie.Need-returns-in-Nil
 unfolding kind_number
-returns c = search rules
+returns-in-Nil c = search rules
 
-returns-2 : tie.Need-returns-2
+returns-in-String : tie.Need-returns-in-String
 unfolding kind_number
-returns-2 c = search rules
+returns-in-String c = search rules
 
-returns-3 : tie.Need-returns-3
+returns-in-Integer : tie.Need-returns-in-Integer
 unfolding kind_number
-returns-3 c = search rules
+returns-in-Integer c = search rules
 
-returns-4 : tie.Need-returns-4
+returns-in-Cell : tie.Need-returns-in-Cell
 unfolding kind_number
-returns-4 c = search rules
+returns-in-Cell c = search rules
 
-returns-5 : tie.Need-returns-5
+returns-in-Error : tie.Need-returns-in-Error
 unfolding kind_number
-returns-5 c = search rules
+returns-in-Error c = search rules
 
-returns-6 : tie.Need-returns-6
+returns-in-Box : tie.Need-returns-in-Box
 unfolding kind_number
-returns-6 c = search rules
+returns-in-Box c = search rules
 
-returns-7 : tie.Need-returns-7
+returns-in-Array : tie.Need-returns-in-Array
 unfolding kind_number
-returns-7 c = search rules
+returns-in-Array c = search rules
 
-returns-8 : tie.Need-returns-8
+returns-in-Map : tie.Need-returns-in-Map
 unfolding kind_number
-returns-8 c = search rules
+returns-in-Map c = search rules
 
-returns-9 : tie.Need-returns-9
+returns-in-Struct : tie.Need-returns-in-Struct
 unfolding kind_number
-returns-9 c = search rules
+returns-in-Struct c = search rules
 
-returns-10 : tie.Need-returns-10
+returns-in-Function : tie.Need-returns-in-Function
 unfolding kind_number
-returns-10 c = search rules
+returns-in-Function c = search rules
 
-returns-11 : tie.Need-returns-11
+returns-in-Iterator : tie.Need-returns-in-Iterator
 unfolding kind_number
-returns-11 c = search rules
+returns-in-Iterator c = search rules
 
-returns-12 : tie.Need-returns-12
+returns-in-Coroutine : tie.Need-returns-in-Coroutine
 unfolding kind_number
-returns-12 c = search rules
+returns-in-Coroutine c = search rules
 
-returns-13 : tie.Need-returns-13
+returns-in-Truth : tie.Need-returns-in-Truth
 unfolding kind_number
-returns-13 c = search rules
+returns-in-Truth c = search rules
 
-returns-14 : tie.Need-returns-14
+returns-in-Float : tie.Need-returns-in-Float
 unfolding kind_number
-returns-14 c = search rules
+returns-in-Float c = search rules
 
-returns-15 : tie.Need-returns-15
+returns-in-Character : tie.Need-returns-in-Character
 unfolding kind_number
-returns-15 c = search rules
+returns-in-Character c = search rules
 
-returns-16 : tie.Need-returns-16
+returns-in-Dead : tie.Need-returns-in-Dead
 unfolding kind_number
-returns-16 c = search rules
+returns-in-Dead c = search rules
 
 pub kind_number_spec : {M : Type 1} → statement M
 kind_number_spec =
     tie.close
     (tie.spec
-    enum_told
-    enum-told-2
-    enum-told-3
-    enum-told-4
-    enum-told-5
-    enum-told-6
-    enum-told-7
-    enum-told-8
-    enum-told-9
-    enum-told-10
-    enum-told-11
-    enum-told-12
-    enum-told-13
-    enum-told-14
-    enum-told-15
-    enum-told-16
-    returns
-    returns-2
-    returns-3
-    returns-4
-    returns-5
-    returns-6
-    returns-7
-    returns-8
-    returns-9
-    returns-10
-    returns-11
-    returns-12
-    returns-13
-    returns-14
-    returns-15
-    returns-16)
+    enum_told-1
+    enum_told-in-String
+    enum_told-in-Integer
+    enum_told-in-Cell
+    enum_told-in-Error
+    enum_told-in-Box
+    enum_told-in-Array
+    enum_told-in-Map
+    enum_told-in-Struct
+    enum_told-in-Function
+    enum_told-in-Iterator
+    enum_told-in-Coroutine
+    enum_told-in-Truth
+    enum_told-in-Float
+    enum_told-in-Character
+    enum_told-in-Dead
+    returns-in-Nil
+    returns-in-String
+    returns-in-Integer
+    returns-in-Cell
+    returns-in-Error
+    returns-in-Box
+    returns-in-Array
+    returns-in-Map
+    returns-in-Struct
+    returns-in-Function
+    returns-in-Iterator
+    returns-in-Coroutine
+    returns-in-Truth
+    returns-in-Float
+    returns-in-Character
+    returns-in-Dead)

@@ -4,54 +4,54 @@ use borrow.Author.Rules.{rules}
 use Rattle.answers.proofs.moved.Statement.{statement}
 use Rattle.answers.proofs.moved.Tie as tie
 
-enum-known-a : tie.Need-enum-known-a
-enum-known-a c = search rules
+enum_known-a : tie.Need-enum_known-a
+enum_known-a c = search rules
 
-enum-known-found : tie.Need-enum-known-found
-enum-known-found c = search rules
+enum_known-found : tie.Need-enum_known-found
+enum_known-found c = search rules
 
-with-cursor-requires : tie.Need-with-cursor-requires
-with-cursor-requires c κs = search rules
+with_cursor-requires : tie.Need-with_cursor-requires
+with_cursor-requires c κs = search rules
 
-enum_told : tie.Need-enum-told
-enum_told c = search rules
+enum_told-1 : tie.Need-enum_told-1
+enum_told-1 c = search rules
 
-with-cursor-requires-2 : tie.Need-with-cursor-requires-2
-with-cursor-requires-2 c κs = search rules
+with_cursor-requires-in-Nothing : tie.Need-with_cursor-requires-in-Nothing
+with_cursor-requires-in-Nothing c κs = search rules
 
-enum-known-a-2 : tie.Need-enum-known-a-2
-enum-known-a-2 c = search rules
+enum_known-a-in-Refused-1 : tie.Need-enum_known-a-in-Refused-1
+enum_known-a-in-Refused-1 c = search rules
 
-number-of-requires : tie.Need-number-of-requires
-number-of-requires c κs = search rules
+number_of-requires : tie.Need-number_of-requires
+number_of-requires c κs = search rules
 
-with-cursor-requires-3 : tie.Need-with-cursor-requires-3
-with-cursor-requires-3 c κs = search rules
+with_cursor-requires-in-Refused : tie.Need-with_cursor-requires-in-Refused
+with_cursor-requires-in-Refused c κs = search rules
 
-returns : tie.Need-returns
+returns-in-At : tie.Need-returns-in-At
 unfolding shown_of with_lent answer_shown reply_shown or_zero yielded step_seen
-returns c = rw (c.before.before.before.before.before.before.a.given.1, c.with-cursor.ensures, c.before.before.found.given.1)
+returns-in-At c = rw (c.in-Is.is, c.with_cursor.ensures, c.in-At.is)
 
-returns-2 : tie.Need-returns-2
+returns-in-Nothing : tie.Need-returns-in-Nothing
 unfolding shown_of with_lent answer_shown reply_shown or_zero yielded step_seen
-returns-2 c = rw (c.before.before.before.before.before.a.given.1, c.with-cursor2.ensures, c.before.enum_told.given.1)
+returns-in-Nothing c = rw (c.in-Is.is, c.with_cursor-in-Nothing.ensures, c.in-Nothing.is)
 
-returns-3 : tie.Need-returns-3
+returns-in-Refused : tie.Need-returns-in-Refused
 unfolding shown_of with_lent answer_shown reply_shown or_zero yielded step_seen
-returns-3 c = rw (c.before.before.before.a2.given.1, c.with-cursor3.ensures, c.before.number_of.ensures)
+returns-in-Refused c = rw (c.in-Refused.is, c.with_cursor-in-Refused.ensures, c.number_of.ensures)
 
 pub moved_spec : {M : Type 1} → statement M
 moved_spec =
     tie.close
     (tie.spec
-    enum-known-a
-    enum-known-found
-    with-cursor-requires
-    enum_told
-    with-cursor-requires-2
-    enum-known-a-2
-    number-of-requires
-    with-cursor-requires-3
-    returns
-    returns-2
-    returns-3)
+    enum_known-a
+    enum_known-found
+    with_cursor-requires
+    enum_told-1
+    with_cursor-requires-in-Nothing
+    enum_known-a-in-Refused-1
+    number_of-requires
+    with_cursor-requires-in-Refused
+    returns-in-At
+    returns-in-Nothing
+    returns-in-Refused)

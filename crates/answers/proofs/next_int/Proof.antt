@@ -7,50 +7,50 @@ use borrow.Author.Rules.{rules}
 use Rattle.answers.proofs.next_int.Statement.{statement}
 use Rattle.answers.proofs.next_int.Tie as tie
 
-enum-known-a : tie.Need-enum-known-a
-enum-known-a c = search rules
+enum_known-a : tie.Need-enum_known-a
+enum_known-a c = search rules
 
-bits-of-requires : tie.Need-bits-of-requires
-bits-of-requires c κs = search rules
+bits_of-requires : tie.Need-bits_of-requires
+bits_of-requires c κs = search rules
 
 shows-requires : tie.Need-shows-requires
 shows-requires c κs = search rules
 
-enum_told : tie.Need-enum-told
-enum_told c = search rules
+enum_told-1 : tie.Need-enum_told-1
+enum_told-1 c = search rules
 
-shows-requires-2 : tie.Need-shows-requires-2
-shows-requires-2 c κs = search rules
+shows-requires-in-Past : tie.Need-shows-requires-in-Past
+shows-requires-in-Past c κs = search rules
 
-enum-known-a-2 : tie.Need-enum-known-a-2
-enum-known-a-2 c = search rules
+enum_known-a-in-Refused-1 : tie.Need-enum_known-a-in-Refused-1
+enum_known-a-in-Refused-1 c = search rules
 
 refused-requires : tie.Need-refused-requires
 refused-requires c κs = search rules
 
-returns : tie.Need-returns
+returns-in-Is : tie.Need-returns-in-Is
 unfolding shown_of with_lent answer_shown reply_shown key_bits is_past next_seen
-returns c = let f : SFits w64 c.before.before.before.a.given.0.0 = search rules in rw (c.before.before.before.a.given.1, c.shows.ensures, (rw (to_z-of_z f) at c.before.bits_of.ensures))
+returns-in-Is c = let f : SFits w64 c.in-Is.k = search rules in rw (c.in-Is.is, c.shows.ensures, (rw (to_z-of_z f) at c.bits_of.ensures))
 
-returns-2 : tie.Need-returns-2
+returns-in-Past : tie.Need-returns-in-Past
 unfolding shown_of with_lent answer_shown reply_shown key_bits is_past next_seen
-returns-2 c = rw (c.before.enum_told.given.1, c.shows2.ensures)
+returns-in-Past c = rw (c.in-Past.is, c.shows-in-Past.ensures)
 
-returns-3 : tie.Need-returns-3
+returns-in-Refused : tie.Need-returns-in-Refused
 unfolding shown_of with_lent answer_shown reply_shown key_bits is_past next_seen
-returns-3 c = rw (c.before.before.a2.given.1, c.refused.ensures)
+returns-in-Refused c = rw (c.in-Refused.is, c.refused.ensures)
 
 pub next_int_spec : {M : Type 1} → statement M
 next_int_spec =
     tie.close
     (tie.spec
-    enum-known-a
-    bits-of-requires
+    enum_known-a
+    bits_of-requires
     shows-requires
-    enum_told
-    shows-requires-2
-    enum-known-a-2
+    enum_told-1
+    shows-requires-in-Past
+    enum_known-a-in-Refused-1
     refused-requires
-    returns
-    returns-2
-    returns-3)
+    returns-in-Is
+    returns-in-Past
+    returns-in-Refused)

@@ -8,7 +8,11 @@ shows-requires c κs = search rules
 
 returns : tie.Need-returns
 unfolding shown_of with_lent answer_shown reply_shown
-returns c = rw (c.shows.ensures)
+returns c = rw c.shows.ensures
 
 pub number_spec : {M : Type 1} → statement M
-number_spec = tie.close (tie.spec shows-requires returns)
+number_spec =
+    tie.close
+    (tie.spec
+    shows-requires
+    returns)

@@ -6,117 +6,117 @@ use borrow.Author.Rules.{rules}
 use Rattle.answers.proofs.raw.Statement.{statement}
 use Rattle.answers.proofs.raw.Tie as tie
 
-enum_told : tie.Need-enum-told
-enum_told c = search rules
+enum_told-1 : tie.Need-enum_told-1
+enum_told-1 c = search rules
 
 shows-requires : tie.Need-shows-requires
 shows-requires c κs = search rules
 
-enum-known-a : tie.Need-enum-known-a
-enum-known-a c = search rules
+enum_known-a : tie.Need-enum_known-a
+enum_known-a c = search rules
 
 bit-requires : tie.Need-bit-requires
 bit-requires c κs = search rules
 
-shows-requires-2 : tie.Need-shows-requires-2
-shows-requires-2 c κs = search rules
+shows-requires-in-Bool : tie.Need-shows-requires-in-Bool
+shows-requires-in-Bool c κs = search rules
 
-enum-known-a-2 : tie.Need-enum-known-a-2
-enum-known-a-2 c = search rules
+enum_known-a-in-Int-1 : tie.Need-enum_known-a-in-Int-1
+enum_known-a-in-Int-1 c = search rules
 
-bits-of-requires : tie.Need-bits-of-requires
-bits-of-requires c κs = search rules
+bits_of-requires : tie.Need-bits_of-requires
+bits_of-requires c κs = search rules
 
-shows-requires-3 : tie.Need-shows-requires-3
-shows-requires-3 c κs = search rules
+shows-requires-in-Int : tie.Need-shows-requires-in-Int
+shows-requires-in-Int c κs = search rules
 
-enum-known-a-3 : tie.Need-enum-known-a-3
-enum-known-a-3 c = search rules
+enum_known-a-in-Float-1 : tie.Need-enum_known-a-in-Float-1
+enum_known-a-in-Float-1 c = search rules
 
-float-bits-requires : tie.Need-float-bits-requires
-float-bits-requires c κs = search rules
+float_bits-requires : tie.Need-float_bits-requires
+float_bits-requires c κs = search rules
 
-shows-requires-4 : tie.Need-shows-requires-4
-shows-requires-4 c κs = search rules
+shows-requires-in-Float : tie.Need-shows-requires-in-Float
+shows-requires-in-Float c κs = search rules
 
-enum-known-a-4 : tie.Need-enum-known-a-4
-enum-known-a-4 c = search rules
+enum_known-a-in-Char-1 : tie.Need-enum_known-a-in-Char-1
+enum_known-a-in-Char-1 c = search rules
 
-cast-shows : tie.Need-overflow-cast-shows
-cast-shows c = search rules
+overflow_cast-k : tie.Need-overflow_cast-k
+overflow_cast-k c = search rules
 
-shows-requires-5 : tie.Need-shows-requires-5
-shows-requires-5 c κs = search rules
+shows-requires-in-Char : tie.Need-shows-requires-in-Char
+shows-requires-in-Char c κs = search rules
 
-enum-known-a-5 : tie.Need-enum-known-a-5
-enum-known-a-5 c = search rules
+enum_known-a-in-Ref-1 : tie.Need-enum_known-a-in-Ref-1
+enum_known-a-in-Ref-1 c = search rules
 
-cast-shows-2 : tie.Need-overflow-cast-shows-2
-cast-shows-2 c = search rules
+overflow_cast-t : tie.Need-overflow_cast-t
+overflow_cast-t c = search rules
 
-mul-shows : tie.Need-overflow-mul-shows
-mul-shows c = search rules
+overflow_mul-t : tie.Need-overflow_mul-t
+overflow_mul-t c = search rules
 
-cast-shows-3 : tie.Need-overflow-cast-shows-3
-cast-shows-3 c = search rules
+overflow_cast-s : tie.Need-overflow_cast-s
+overflow_cast-s c = search rules
 
-add-shows : tie.Need-overflow-add-shows
-add-shows c = search rules
+overflow_add-t : tie.Need-overflow_add-t
+overflow_add-t c = search rules
 
-shows-requires-6 : tie.Need-shows-requires-6
-shows-requires-6 c κs = search rules
+shows-requires-in-Ref : tie.Need-shows-requires-in-Ref
+shows-requires-in-Ref c κs = search rules
 
-returns : tie.Need-returns
+returns-in-Nil : tie.Need-returns-in-Nil
 unfolding shown_of with_lent answer_shown reply_shown raw_shown
-returns c = rw (c.before.enum_told.given.1, c.shows.ensures)
+returns-in-Nil c = rw (c.in-Nil.is, c.shows.ensures)
 
-returns-2 : tie.Need-returns-2
+returns-in-Bool : tie.Need-returns-in-Bool
 unfolding shown_of with_lent answer_shown reply_shown raw_shown
-returns-2 c = rw (c.before.before.before.a.given.1, c.shows2.ensures, c.before.bit.ensures)
+returns-in-Bool c = rw (c.in-Bool.is, c.shows-in-Bool.ensures, c.bit.ensures)
 
-returns-3 : tie.Need-returns-3
+returns-in-Int : tie.Need-returns-in-Int
 unfolding shown_of with_lent answer_shown reply_shown raw_shown
-returns-3 c = let f : SFits w64 c.before.before.before.a2.given.0.0 = search rules in rw (c.before.before.before.a2.given.1, c.shows3.ensures, (rw (to_z-of_z f) at c.before.bits_of.ensures))
+returns-in-Int c = let f : SFits w64 c.in-Int.k = search rules in rw (c.in-Int.is, c.shows-in-Int.ensures, (rw (to_z-of_z f) at c.bits_of.ensures))
 
-returns-4 : tie.Need-returns-4
+returns-in-Float : tie.Need-returns-in-Float
 unfolding shown_of with_lent answer_shown reply_shown raw_shown
-returns-4 c = rw (c.before.before.before.a3.given.1, c.shows4.ensures, c.before.float-bits.ensures)
+returns-in-Float c = rw (c.in-Float.is, c.shows-in-Float.ensures, c.float_bits.ensures)
 
-returns-5 : tie.Need-returns-5
+returns-in-Char : tie.Need-returns-in-Char
 unfolding shown_of with_lent answer_shown reply_shown raw_shown
-returns-5 c = rw (c.before.before.a4.given.1, c.shows5.ensures)
+returns-in-Char c = rw (c.in-Char.is, c.shows-in-Char.ensures)
 
-returns-6 : tie.Need-returns-6
+returns-in-Ref : tie.Need-returns-in-Ref
 unfolding shown_of with_lent answer_shown reply_shown raw_shown
-returns-6 c = rw (c.before.before.a5.given.1, c.shows6.ensures)
+returns-in-Ref c = rw (c.in-Ref.is, c.shows-in-Ref.ensures)
 
 pub raw_spec : {M : Type 1} → statement M
 raw_spec =
     tie.close
     (tie.spec
-    enum_told
+    enum_told-1
     shows-requires
-    enum-known-a
+    enum_known-a
     bit-requires
-    shows-requires-2
-    enum-known-a-2
-    bits-of-requires
-    shows-requires-3
-    enum-known-a-3
-    float-bits-requires
-    shows-requires-4
-    enum-known-a-4
-    cast-shows
-    shows-requires-5
-    enum-known-a-5
-    cast-shows-2
-    mul-shows
-    cast-shows-3
-    add-shows
-    shows-requires-6
-    returns
-    returns-2
-    returns-3
-    returns-4
-    returns-5
-    returns-6)
+    shows-requires-in-Bool
+    enum_known-a-in-Int-1
+    bits_of-requires
+    shows-requires-in-Int
+    enum_known-a-in-Float-1
+    float_bits-requires
+    shows-requires-in-Float
+    enum_known-a-in-Char-1
+    overflow_cast-k
+    shows-requires-in-Char
+    enum_known-a-in-Ref-1
+    overflow_cast-t
+    overflow_mul-t
+    overflow_cast-s
+    overflow_add-t
+    shows-requires-in-Ref
+    returns-in-Nil
+    returns-in-Bool
+    returns-in-Int
+    returns-in-Float
+    returns-in-Char
+    returns-in-Ref)

@@ -3,20 +3,27 @@ use Rattle.capi.proofs.Laws.{good-loaded, keeps}
 use Rattle.capi.proofs.mch_array_type.Statement.{statement}
 use Rattle.capi.proofs.mch_array_type.Tie as tie
 
-load-requires : tie.Need-load-requires
-load-requires c κs = search rules
+load-h-requires : tie.Need-load-h-requires
+load-h-requires c κs = search rules
 
-array-type-requires : tie.Need-array-type-requires
-array-type-requires c κs = good-loaded c.load.ensures c.before.before.before.before.before.before.requires
+array_type-a-requires : tie.Need-array_type-a-requires
+array_type-a-requires c κs = good-loaded c.load-h.ensures c.requires
 
 reading-requires : tie.Need-reading-requires
 reading-requires c κs = search rules
 
-write-answer-requires : tie.Need-write-answer-requires
-write-answer-requires c κs = search rules
+write_answer-requires : tie.Need-write_answer-requires
+write_answer-requires c κs = search rules
 
 returns : tie.Need-returns
-returns c = keeps c.before.before.before.before.load.ensures c.before.before.before.array_type.ensures c.before.reading.ensures c.write-answer.ensures
+returns c = keeps c.load-h.ensures c.array_type-a.ensures c.reading.ensures c.write_answer.ensures
 
 pub mch_array_type_spec : {M : Type 1} → statement M
-mch_array_type_spec = tie.close (tie.spec load-requires array-type-requires reading-requires write-answer-requires returns)
+mch_array_type_spec =
+    tie.close
+    (tie.spec
+    load-h-requires
+    array_type-a-requires
+    reading-requires
+    write_answer-requires
+    returns)

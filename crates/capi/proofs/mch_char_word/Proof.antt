@@ -10,18 +10,24 @@ use Rattle.capi.proofs.Laws.{word-told}
 use Rattle.capi.proofs.mch_char_word.Statement.{statement}
 use Rattle.capi.proofs.mch_char_word.Tie as tie
 
-from-char-requires : tie.Need-from-char-requires
-from-char-requires c κs = search rules
+from_char-requires : tie.Need-from_char-requires
+from_char-requires c κs = search rules
 
 number-requires : tie.Need-number-requires
 number-requires c κs = search rules
 
-write-answer-requires : tie.Need-write-answer-requires
-write-answer-requires c κs = search rules
+write_answer-requires : tie.Need-write_answer-requires
+write_answer-requires c κs = search rules
 
 returns : tie.Need-returns
 unfolding terms effect
-returns c = λ m. word-told m (Calls.char_word _) (number _) refl (ap (λ (n : ℕ). uncharged [] (number n)) (sym c.before.before.from-char.ensures)) c.before.number.ensures c.write-answer.ensures
+returns c = λ m. word-told m (Calls.char_word _) (number _) refl (ap (λ (n : ℕ). uncharged [] (number n)) (sym c.from_char.ensures)) c.number.ensures c.write_answer.ensures
 
 pub mch_char_word_spec : {M : Type 1} → statement M
-mch_char_word_spec = tie.close (tie.spec from-char-requires number-requires write-answer-requires returns)
+mch_char_word_spec =
+    tie.close
+    (tie.spec
+    from_char-requires
+    number-requires
+    write_answer-requires
+    returns)

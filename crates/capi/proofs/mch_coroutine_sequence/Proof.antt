@@ -3,20 +3,27 @@ use Rattle.capi.proofs.Laws.{good-loaded, keeps}
 use Rattle.capi.proofs.mch_coroutine_sequence.Statement.{statement}
 use Rattle.capi.proofs.mch_coroutine_sequence.Tie as tie
 
-load-requires : tie.Need-load-requires
-load-requires c κs = search rules
+load-h-requires : tie.Need-load-h-requires
+load-h-requires c κs = search rules
 
-coroutine-sequence-requires : tie.Need-coroutine-sequence-requires
-coroutine-sequence-requires c κs = good-loaded c.load.ensures c.before.before.before.before.before.before.requires
+coroutine_sequence-a-requires : tie.Need-coroutine_sequence-a-requires
+coroutine_sequence-a-requires c κs = good-loaded c.load-h.ensures c.requires
 
 reading-requires : tie.Need-reading-requires
 reading-requires c κs = search rules
 
-write-answer-requires : tie.Need-write-answer-requires
-write-answer-requires c κs = search rules
+write_answer-requires : tie.Need-write_answer-requires
+write_answer-requires c κs = search rules
 
 returns : tie.Need-returns
-returns c = keeps c.before.before.before.before.load.ensures c.before.before.before.coroutine_sequence.ensures c.before.reading.ensures c.write-answer.ensures
+returns c = keeps c.load-h.ensures c.coroutine_sequence-a.ensures c.reading.ensures c.write_answer.ensures
 
 pub mch_coroutine_sequence_spec : {M : Type 1} → statement M
-mch_coroutine_sequence_spec = tie.close (tie.spec load-requires coroutine-sequence-requires reading-requires write-answer-requires returns)
+mch_coroutine_sequence_spec =
+    tie.close
+    (tie.spec
+    load-h-requires
+    coroutine_sequence-a-requires
+    reading-requires
+    write_answer-requires
+    returns)

@@ -12,21 +12,28 @@ use Rattle.capi.proofs.Laws.{word-told}
 use Rattle.capi.proofs.mch_float_word.Statement.{statement}
 use Rattle.capi.proofs.mch_float_word.Tie as tie
 
-float-of-bits-requires : tie.Need-float-of-bits-requires
-float-of-bits-requires c κs = search rules
+float_of_bits-f-requires : tie.Need-float_of_bits-f-requires
+float_of_bits-f-requires c κs = search rules
 
-from-f64-requires : tie.Need-from-f64-requires
-from-f64-requires c κs = search rules
+from_f64-requires : tie.Need-from_f64-requires
+from_f64-requires c κs = search rules
 
 number-requires : tie.Need-number-requires
 number-requires c κs = search rules
 
-write-answer-requires : tie.Need-write-answer-requires
-write-answer-requires c κs = search rules
+write_answer-requires : tie.Need-write_answer-requires
+write_answer-requires c κs = search rules
 
 returns : tie.Need-returns
 unfolding terms effect
-returns c = λ m. word-told m (Calls.float_word _) (number _) refl (ap (λ (n : ℕ). uncharged [] (number n)) (sym (c.before.before.from-f64.ensures ∙ ap word_of_float c.before.before.before.before.float-of-bits.ensures))) c.before.number.ensures c.write-answer.ensures
+returns c = λ m. word-told m (Calls.float_word _) (number _) refl (ap (λ (n : ℕ). uncharged [] (number n)) (sym (c.from_f64.ensures ∙ ap word_of_float c.float_of_bits-f.ensures))) c.number.ensures c.write_answer.ensures
 
 pub mch_float_word_spec : {M : Type 1} → statement M
-mch_float_word_spec = tie.close (tie.spec float-of-bits-requires from-f64-requires number-requires write-answer-requires returns)
+mch_float_word_spec =
+    tie.close
+    (tie.spec
+    float_of_bits-f-requires
+    from_f64-requires
+    number-requires
+    write_answer-requires
+    returns)

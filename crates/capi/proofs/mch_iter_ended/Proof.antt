@@ -3,20 +3,27 @@ use Rattle.capi.proofs.Laws.{good-loaded, keeps}
 use Rattle.capi.proofs.mch_iter_ended.Statement.{statement}
 use Rattle.capi.proofs.mch_iter_ended.Tie as tie
 
-load-requires : tie.Need-load-requires
-load-requires c κs = search rules
+load-h-requires : tie.Need-load-h-requires
+load-h-requires c κs = search rules
 
-iter-ended-requires : tie.Need-iter-ended-requires
-iter-ended-requires c κs = good-loaded c.load.ensures c.before.before.before.before.before.before.requires
+iter_ended-a-requires : tie.Need-iter_ended-a-requires
+iter_ended-a-requires c κs = good-loaded c.load-h.ensures c.requires
 
 test-requires : tie.Need-test-requires
 test-requires c κs = search rules
 
-write-answer-requires : tie.Need-write-answer-requires
-write-answer-requires c κs = search rules
+write_answer-requires : tie.Need-write_answer-requires
+write_answer-requires c κs = search rules
 
 returns : tie.Need-returns
-returns c = keeps c.before.before.before.before.load.ensures c.before.before.before.iter_ended.ensures c.before.test.ensures c.write-answer.ensures
+returns c = keeps c.load-h.ensures c.iter_ended-a.ensures c.test.ensures c.write_answer.ensures
 
 pub mch_iter_ended_spec : {M : Type 1} → statement M
-mch_iter_ended_spec = tie.close (tie.spec load-requires iter-ended-requires test-requires write-answer-requires returns)
+mch_iter_ended_spec =
+    tie.close
+    (tie.spec
+    load-h-requires
+    iter_ended-a-requires
+    test-requires
+    write_answer-requires
+    returns)

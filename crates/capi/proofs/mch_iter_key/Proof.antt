@@ -3,20 +3,27 @@ use Rattle.capi.proofs.Laws.{good-loaded, keeps}
 use Rattle.capi.proofs.mch_iter_key.Statement.{statement}
 use Rattle.capi.proofs.mch_iter_key.Tie as tie
 
-load-requires : tie.Need-load-requires
-load-requires c κs = search rules
+load-h-requires : tie.Need-load-h-requires
+load-h-requires c κs = search rules
 
-iter-key-requires : tie.Need-iter-key-requires
-iter-key-requires c κs = good-loaded c.load.ensures c.before.before.before.before.before.before.requires
+iter_key-a-requires : tie.Need-iter_key-a-requires
+iter_key-a-requires c κs = good-loaded c.load-h.ensures c.requires
 
 perhaps-requires : tie.Need-perhaps-requires
 perhaps-requires c κs = search rules
 
-write-answer-requires : tie.Need-write-answer-requires
-write-answer-requires c κs = search rules
+write_answer-requires : tie.Need-write_answer-requires
+write_answer-requires c κs = search rules
 
 returns : tie.Need-returns
-returns c = keeps c.before.before.before.before.load.ensures c.before.before.before.iter_key.ensures c.before.perhaps.ensures c.write-answer.ensures
+returns c = keeps c.load-h.ensures c.iter_key-a.ensures c.perhaps.ensures c.write_answer.ensures
 
 pub mch_iter_key_spec : {M : Type 1} → statement M
-mch_iter_key_spec = tie.close (tie.spec load-requires iter-key-requires perhaps-requires write-answer-requires returns)
+mch_iter_key_spec =
+    tie.close
+    (tie.spec
+    load-h-requires
+    iter_key-a-requires
+    perhaps-requires
+    write_answer-requires
+    returns)

@@ -3,20 +3,27 @@ use Rattle.capi.proofs.Laws.{good-loaded, keeps}
 use Rattle.capi.proofs.mch_map_epoch.Statement.{statement}
 use Rattle.capi.proofs.mch_map_epoch.Tie as tie
 
-load-requires : tie.Need-load-requires
-load-requires c κs = search rules
+load-h-requires : tie.Need-load-h-requires
+load-h-requires c κs = search rules
 
-map-epoch-requires : tie.Need-map-epoch-requires
-map-epoch-requires c κs = good-loaded c.load.ensures c.before.before.before.before.before.before.requires
+map_epoch-a-requires : tie.Need-map_epoch-a-requires
+map_epoch-a-requires c κs = good-loaded c.load-h.ensures c.requires
 
 reading-requires : tie.Need-reading-requires
 reading-requires c κs = search rules
 
-write-answer-requires : tie.Need-write-answer-requires
-write-answer-requires c κs = search rules
+write_answer-requires : tie.Need-write_answer-requires
+write_answer-requires c κs = search rules
 
 returns : tie.Need-returns
-returns c = keeps c.before.before.before.before.load.ensures c.before.before.before.map_epoch.ensures c.before.reading.ensures c.write-answer.ensures
+returns c = keeps c.load-h.ensures c.map_epoch-a.ensures c.reading.ensures c.write_answer.ensures
 
 pub mch_map_epoch_spec : {M : Type 1} → statement M
-mch_map_epoch_spec = tie.close (tie.spec load-requires map-epoch-requires reading-requires write-answer-requires returns)
+mch_map_epoch_spec =
+    tie.close
+    (tie.spec
+    load-h-requires
+    map_epoch-a-requires
+    reading-requires
+    write_answer-requires
+    returns)

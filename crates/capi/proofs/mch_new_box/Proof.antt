@@ -3,11 +3,11 @@ use Rattle.capi.proofs.Laws.{good-loaded, performs}
 use Rattle.capi.proofs.mch_new_box.Statement.{statement}
 use Rattle.capi.proofs.mch_new_box.Tie as tie
 
-load-requires : tie.Need-load-requires
-load-requires c κs = search rules
+load-h-requires : tie.Need-load-h-requires
+load-h-requires c κs = search rules
 
-new-box-requires : tie.Need-new-box-requires
-new-box-requires c κs = good-loaded c.before.load.ensures c.before.before.before.before.before.before.before.before.requires
+new_box-a-requires : tie.Need-new_box-a-requires
+new_box-a-requires c κs = good-loaded c.load-h.ensures c.requires
 
 save-requires : tie.Need-save-requires
 save-requires c κs = search rules
@@ -15,14 +15,23 @@ save-requires c κs = search rules
 made-requires : tie.Need-made-requires
 made-requires c κs = search rules
 
-write-answer-requires : tie.Need-write-answer-requires
-write-answer-requires c κs = search rules
+write_answer-requires : tie.Need-write_answer-requires
+write_answer-requires c κs = search rules
 
-same_length : tie.Need-same-length
-same_length c = search rules
+shape_of-slots : tie.Need-shape_of-slots
+shape_of-slots c = search rules
 
 returns : tie.Need-returns
-returns c = performs c.before.before.before.before.before.before.before.before.before.before.load.ensures c.before.before.before.save.ensures c.before.before.before.before.before.before.before.before.new_box.ensures c.before.made.ensures c.write-answer.ensures
+returns c = performs c.load-h.ensures c.save.ensures c.new_box-a.ensures c.made.ensures c.write_answer.ensures
 
 pub mch_new_box_spec : {M : Type 1} → statement M
-mch_new_box_spec = tie.close (tie.spec load-requires new-box-requires save-requires made-requires write-answer-requires same_length returns)
+mch_new_box_spec =
+    tie.close
+    (tie.spec
+    load-h-requires
+    new_box-a-requires
+    save-requires
+    made-requires
+    write_answer-requires
+    shape_of-slots
+    returns)

@@ -3,14 +3,14 @@ use Rattle.capi.proofs.Laws.{good-loaded, performs_with}
 use Rattle.capi.proofs.mch_new_coroutine.Statement.{statement}
 use Rattle.capi.proofs.mch_new_coroutine.Tie as tie
 
-load-requires : tie.Need-load-requires
-load-requires c κs = search rules
+load-h-requires : tie.Need-load-h-requires
+load-h-requires c κs = search rules
 
-load-coroutine-requires : tie.Need-load-coroutine-requires
-load-coroutine-requires c κs = search rules
+load_coroutine-made_with-requires : tie.Need-load_coroutine-made_with-requires
+load_coroutine-made_with-requires c κs = search rules
 
-new-coroutine-flat-requires : tie.Need-new-coroutine-flat-requires
-new-coroutine-flat-requires c κs = good-loaded c.before.before.before.before.before.load.ensures c.before.before.before.before.before.before.before.before.before.before.before.before.before.before.requires
+new_coroutine_flat-a-requires : tie.Need-new_coroutine_flat-a-requires
+new_coroutine_flat-a-requires c κs = good-loaded c.load-h.ensures c.requires
 
 save-requires : tie.Need-save-requires
 save-requires c κs = search rules
@@ -18,23 +18,36 @@ save-requires c κs = search rules
 made-requires : tie.Need-made-requires
 made-requires c κs = search rules
 
-write-answer-requires : tie.Need-write-answer-requires
-write-answer-requires c κs = search rules
+write_answer-requires : tie.Need-write_answer-requires
+write_answer-requires c κs = search rules
 
-same_length : tie.Need-same-length
-same_length c = search rules
+shape_of-slots : tie.Need-shape_of-slots
+shape_of-slots c = search rules
 
-same-length-2 : tie.Need-same-length-2
-same-length-2 c = search rules
+shape_of-scalars : tie.Need-shape_of-scalars
+shape_of-scalars c = search rules
 
-same-length-3 : tie.Need-same-length-3
-same-length-3 c = search rules
+shape_of-directory : tie.Need-shape_of-directory
+shape_of-directory c = search rules
 
-same-length-4 : tie.Need-same-length-4
-same-length-4 c = search rules
+shape_of-cells : tie.Need-shape_of-cells
+shape_of-cells c = search rules
 
 returns : tie.Need-returns
-returns c = performs_with c.before.before.before.before.before.before.before.before.before.before.before.before.before.before.before.before.before.before.before.before.load.ensures c.before.before.before.save.ensures c.before.before.before.before.before.before.before.before.before.before.before.before.before.before.before.before.before.before.before.load-coroutine.ensures c.before.before.before.before.before.before.before.before.before.before.before.before.before.before.new-coroutine-flat.ensures c.before.made.ensures c.write-answer.ensures
+returns c = performs_with c.load-h.ensures c.save.ensures c.load_coroutine-made_with.ensures c.new_coroutine_flat-a.ensures c.made.ensures c.write_answer.ensures
 
 pub mch_new_coroutine_spec : {M : Type 1} → statement M
-mch_new_coroutine_spec = tie.close (tie.spec load-requires load-coroutine-requires new-coroutine-flat-requires save-requires made-requires write-answer-requires same_length same-length-2 same-length-3 same-length-4 returns)
+mch_new_coroutine_spec =
+    tie.close
+    (tie.spec
+    load-h-requires
+    load_coroutine-made_with-requires
+    new_coroutine_flat-a-requires
+    save-requires
+    made-requires
+    write_answer-requires
+    shape_of-slots
+    shape_of-scalars
+    shape_of-directory
+    shape_of-cells
+    returns)

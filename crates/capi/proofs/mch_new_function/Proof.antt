@@ -3,11 +3,11 @@ use Rattle.capi.proofs.Laws.{good-loaded, performs}
 use Rattle.capi.proofs.mch_new_function.Statement.{statement}
 use Rattle.capi.proofs.mch_new_function.Tie as tie
 
-load-requires : tie.Need-load-requires
-load-requires c κs = search rules
+load-h-requires : tie.Need-load-h-requires
+load-h-requires c κs = search rules
 
-new-function-requires : tie.Need-new-function-requires
-new-function-requires c κs = good-loaded c.before.before.before.load.ensures c.before.before.before.before.before.before.before.before.before.before.before.requires
+new_function-a-requires : tie.Need-new_function-a-requires
+new_function-a-requires c κs = good-loaded c.load-h.ensures c.requires
 
 save-requires : tie.Need-save-requires
 save-requires c κs = search rules
@@ -15,20 +15,31 @@ save-requires c κs = search rules
 made-requires : tie.Need-made-requires
 made-requires c κs = search rules
 
-write-answer-requires : tie.Need-write-answer-requires
-write-answer-requires c κs = search rules
+write_answer-requires : tie.Need-write_answer-requires
+write_answer-requires c κs = search rules
 
-same_length : tie.Need-same-length
-same_length c = search rules
+shape_of-slots : tie.Need-shape_of-slots
+shape_of-slots c = search rules
 
-same-length-2 : tie.Need-same-length-2
-same-length-2 c = search rules
+shape_of-directory : tie.Need-shape_of-directory
+shape_of-directory c = search rules
 
-same-length-3 : tie.Need-same-length-3
-same-length-3 c = search rules
+shape_of-cells : tie.Need-shape_of-cells
+shape_of-cells c = search rules
 
 returns : tie.Need-returns
-returns c = performs c.before.before.before.before.before.before.before.before.before.before.before.before.before.before.before.before.load.ensures c.before.before.before.save.ensures c.before.before.before.before.before.before.before.before.before.before.before.before.new_function.ensures c.before.made.ensures c.write-answer.ensures
+returns c = performs c.load-h.ensures c.save.ensures c.new_function-a.ensures c.made.ensures c.write_answer.ensures
 
 pub mch_new_function_spec : {M : Type 1} → statement M
-mch_new_function_spec = tie.close (tie.spec load-requires new-function-requires save-requires made-requires write-answer-requires same_length same-length-2 same-length-3 returns)
+mch_new_function_spec =
+    tie.close
+    (tie.spec
+    load-h-requires
+    new_function-a-requires
+    save-requires
+    made-requires
+    write_answer-requires
+    shape_of-slots
+    shape_of-directory
+    shape_of-cells
+    returns)

@@ -3,20 +3,27 @@ use Rattle.capi.proofs.Laws.{good-loaded, keeps}
 use Rattle.capi.proofs.mch_next_key.Statement.{statement}
 use Rattle.capi.proofs.mch_next_key.Tie as tie
 
-load-requires : tie.Need-load-requires
-load-requires c κs = search rules
+load-h-requires : tie.Need-load-h-requires
+load-h-requires c κs = search rules
 
-next-key-requires : tie.Need-next-key-requires
-next-key-requires c κs = good-loaded c.load.ensures c.before.before.before.before.before.before.requires
+next_key-a-requires : tie.Need-next_key-a-requires
+next_key-a-requires c κs = good-loaded c.load-h.ensures c.requires
 
-next-int-requires : tie.Need-next-int-requires
-next-int-requires c κs = search rules
+next_int-requires : tie.Need-next_int-requires
+next_int-requires c κs = search rules
 
-write-answer-requires : tie.Need-write-answer-requires
-write-answer-requires c κs = search rules
+write_answer-requires : tie.Need-write_answer-requires
+write_answer-requires c κs = search rules
 
 returns : tie.Need-returns
-returns c = keeps c.before.before.before.before.load.ensures c.before.before.before.next_key.ensures c.before.next-int.ensures c.write-answer.ensures
+returns c = keeps c.load-h.ensures c.next_key-a.ensures c.next_int.ensures c.write_answer.ensures
 
 pub mch_next_key_spec : {M : Type 1} → statement M
-mch_next_key_spec = tie.close (tie.spec load-requires next-key-requires next-int-requires write-answer-requires returns)
+mch_next_key_spec =
+    tie.close
+    (tie.spec
+    load-h-requires
+    next_key-a-requires
+    next_int-requires
+    write_answer-requires
+    returns)

@@ -3,20 +3,27 @@ use Rattle.capi.proofs.Laws.{good-loaded, keeps}
 use Rattle.capi.proofs.mch_next_sequence.Statement.{statement}
 use Rattle.capi.proofs.mch_next_sequence.Tie as tie
 
-load-requires : tie.Need-load-requires
-load-requires c κs = search rules
+load-h-requires : tie.Need-load-h-requires
+load-h-requires c κs = search rules
 
-next-sequence-requires : tie.Need-next-sequence-requires
-next-sequence-requires c κs = good-loaded c.load.ensures c.before.before.before.before.before.before.requires
+next_sequence-a-requires : tie.Need-next_sequence-a-requires
+next_sequence-a-requires c κs = good-loaded c.load-h.ensures c.requires
 
 reading-requires : tie.Need-reading-requires
 reading-requires c κs = search rules
 
-write-answer-requires : tie.Need-write-answer-requires
-write-answer-requires c κs = search rules
+write_answer-requires : tie.Need-write_answer-requires
+write_answer-requires c κs = search rules
 
 returns : tie.Need-returns
-returns c = keeps c.before.before.before.before.load.ensures c.before.before.before.next_sequence.ensures c.before.reading.ensures c.write-answer.ensures
+returns c = keeps c.load-h.ensures c.next_sequence-a.ensures c.reading.ensures c.write_answer.ensures
 
 pub mch_next_sequence_spec : {M : Type 1} → statement M
-mch_next_sequence_spec = tie.close (tie.spec load-requires next-sequence-requires reading-requires write-answer-requires returns)
+mch_next_sequence_spec =
+    tie.close
+    (tie.spec
+    load-h-requires
+    next_sequence-a-requires
+    reading-requires
+    write_answer-requires
+    returns)

@@ -4,26 +4,35 @@ use Rattle.capi.proofs.Laws.{good-loaded, keeps}
 use Rattle.capi.proofs.mch_note.Statement.{statement}
 use Rattle.capi.proofs.mch_note.Tie as tie
 
-load-requires : tie.Need-load-requires
-load-requires c κs = search rules
+load-h-requires : tie.Need-load-h-requires
+load-h-requires c κs = search rules
 
-note-requires : tie.Need-note-requires
-note-requires c κs = good-loaded c.before.before.load.ensures c.before.before.before.before.before.before.before.before.requires
+note-a-requires : tie.Need-note-a-requires
+note-a-requires c κs = good-loaded c.load-h.ensures c.requires
 
 done-requires : tie.Need-done-requires
 done-requires c κs = search rules
 
-write-answer-requires : tie.Need-write-answer-requires
-write-answer-requires c κs = search rules
+write_answer-requires : tie.Need-write_answer-requires
+write_answer-requires c κs = search rules
 
-same_length : tie.Need-same-length
-same_length c = search rules
+shape_of-slots : tie.Need-shape_of-slots
+shape_of-slots c = search rules
 
-same-length-2 : tie.Need-same-length-2
-same-length-2 c = search rules
+shape_of-scalars : tie.Need-shape_of-scalars
+shape_of-scalars c = search rules
 
 returns : tie.Need-returns
-returns c = keeps c.before.before.before.before.before.before.before.before.before.before.load.ensures (rw (to_z-of_z c.before.before.before.before.before.before.before.before.before.before.before.before.before.before.before.before.ranges.k) at c.before.before.before.before.before.before.before.note.ensures) c.before.done.ensures c.write-answer.ensures
+returns c = keeps c.load-h.ensures (rw (to_z-of_z c.ranges.k) at c.note-a.ensures) c.done.ensures c.write_answer.ensures
 
 pub mch_note_spec : {M : Type 1} → statement M
-mch_note_spec = tie.close (tie.spec load-requires note-requires done-requires write-answer-requires same_length same-length-2 returns)
+mch_note_spec =
+    tie.close
+    (tie.spec
+    load-h-requires
+    note-a-requires
+    done-requires
+    write_answer-requires
+    shape_of-slots
+    shape_of-scalars
+    returns)

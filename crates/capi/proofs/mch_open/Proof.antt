@@ -6,17 +6,24 @@ use Rattle.capi.proofs.mch_open.Tie as tie
 open-requires : tie.Need-open-requires
 open-requires c κs = search rules
 
-same_length : tie.Need-same-length
-same_length c = search rules
+shape_of-table : tie.Need-shape_of-table
+shape_of-table c = search rules
 
-same-length-2 : tie.Need-same-length-2
-same-length-2 c = search rules
+shape_of-marks : tie.Need-shape_of-marks
+shape_of-marks c = search rules
 
-same-length-3 : tie.Need-same-length-3
-same-length-3 c = search rules
+shape_of-order : tie.Need-shape_of-order
+shape_of-order c = search rules
 
 returns : tie.Need-returns
-returns c = c.before.before.before.before.before.before.«open».ensures
+returns c = c.«open».ensures
 
 pub mch_open_spec : {M : Type 1} → statement M
-mch_open_spec = tie.close (tie.spec open-requires same_length same-length-2 same-length-3 returns)
+mch_open_spec =
+    tie.close
+    (tie.spec
+    open-requires
+    shape_of-table
+    shape_of-marks
+    shape_of-order
+    returns)

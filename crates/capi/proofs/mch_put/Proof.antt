@@ -3,11 +3,11 @@ use Rattle.capi.proofs.Laws.{good-loaded, performs}
 use Rattle.capi.proofs.mch_put.Statement.{statement}
 use Rattle.capi.proofs.mch_put.Tie as tie
 
-load-requires : tie.Need-load-requires
-load-requires c κs = search rules
+load-h-requires : tie.Need-load-h-requires
+load-h-requires c κs = search rules
 
-put-requires : tie.Need-put-requires
-put-requires c κs = good-loaded c.before.before.before.before.load.ensures c.before.before.before.before.before.before.before.before.before.before.before.requires
+put-a-requires : tie.Need-put-a-requires
+put-a-requires c κs = good-loaded c.load-h.ensures c.requires
 
 save-requires : tie.Need-save-requires
 save-requires c κs = search rules
@@ -15,23 +15,35 @@ save-requires c κs = search rules
 done-requires : tie.Need-done-requires
 done-requires c κs = search rules
 
-write-answer-requires : tie.Need-write-answer-requires
-write-answer-requires c κs = search rules
+write_answer-requires : tie.Need-write_answer-requires
+write_answer-requires c κs = search rules
 
-same_length : tie.Need-same-length
-same_length c = search rules
+shape_of-slots : tie.Need-shape_of-slots
+shape_of-slots c = search rules
 
-same-length-2 : tie.Need-same-length-2
-same-length-2 c = search rules
+shape_of-scalars : tie.Need-shape_of-scalars
+shape_of-scalars c = search rules
 
-same-length-3 : tie.Need-same-length-3
-same-length-3 c = search rules
+shape_of-directory : tie.Need-shape_of-directory
+shape_of-directory c = search rules
 
-same-length-4 : tie.Need-same-length-4
-same-length-4 c = search rules
+shape_of-cells : tie.Need-shape_of-cells
+shape_of-cells c = search rules
 
 returns : tie.Need-returns
-returns c = performs c.before.before.before.before.before.before.before.before.before.before.before.before.before.before.before.before.before.before.before.load.ensures c.before.before.before.save.ensures c.before.before.before.before.before.before.before.before.before.before.before.before.before.before.put.ensures c.before.done.ensures c.write-answer.ensures
+returns c = performs c.load-h.ensures c.save.ensures c.put-a.ensures c.done.ensures c.write_answer.ensures
 
 pub mch_put_spec : {M : Type 1} → statement M
-mch_put_spec = tie.close (tie.spec load-requires put-requires save-requires done-requires write-answer-requires same_length same-length-2 same-length-3 same-length-4 returns)
+mch_put_spec =
+    tie.close
+    (tie.spec
+    load-h-requires
+    put-a-requires
+    save-requires
+    done-requires
+    write_answer-requires
+    shape_of-slots
+    shape_of-scalars
+    shape_of-directory
+    shape_of-cells
+    returns)

@@ -10,18 +10,24 @@ use Rattle.capi.proofs.Laws.{word-told}
 use Rattle.capi.proofs.mch_reference_word.Statement.{statement}
 use Rattle.capi.proofs.mch_reference_word.Tie as tie
 
-from-ref-requires : tie.Need-from-ref-requires
-from-ref-requires c κs = search rules
+from_ref-requires : tie.Need-from_ref-requires
+from_ref-requires c κs = search rules
 
 number-requires : tie.Need-number-requires
 number-requires c κs = search rules
 
-write-answer-requires : tie.Need-write-answer-requires
-write-answer-requires c κs = search rules
+write_answer-requires : tie.Need-write_answer-requires
+write_answer-requires c κs = search rules
 
 returns : tie.Need-returns
 unfolding terms effect
-returns c = λ m. word-told m (Calls.reference_word _ _) (number _) refl (ap (λ (n : ℕ). uncharged [] (number n)) (sym c.before.before.from-ref.ensures)) c.before.number.ensures c.write-answer.ensures
+returns c = λ m. word-told m (Calls.reference_word _ _) (number _) refl (ap (λ (n : ℕ). uncharged [] (number n)) (sym c.from_ref.ensures)) c.number.ensures c.write_answer.ensures
 
 pub mch_reference_word_spec : {M : Type 1} → statement M
-mch_reference_word_spec = tie.close (tie.spec from-ref-requires number-requires write-answer-requires returns)
+mch_reference_word_spec =
+    tie.close
+    (tie.spec
+    from_ref-requires
+    number-requires
+    write_answer-requires
+    returns)

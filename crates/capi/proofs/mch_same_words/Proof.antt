@@ -1,6 +1,5 @@
 use borrow.Author.Rules.{rules}
 use mathlib.Core.Path.{sym, ap, refl}
-use Prim.Native.Nat.{ℕ}
 use mathlib.Core.List.{[]}
 use mathlib.Core.Bool.{Bool}
 use Rattle.model.specs.Replies.{truth}
@@ -17,12 +16,18 @@ same-requires c κs = search rules
 flag-requires : tie.Need-flag-requires
 flag-requires c κs = search rules
 
-write-answer-requires : tie.Need-write-answer-requires
-write-answer-requires c κs = search rules
+write_answer-requires : tie.Need-write_answer-requires
+write_answer-requires c κs = search rules
 
 returns : tie.Need-returns
 unfolding terms effect
-returns c = λ m. word-told m (Calls.same_words _ _) (truth _) refl (ap (λ (b : Bool). uncharged [] (truth b)) (sym c.before.before.same.ensures)) c.before.flag.ensures c.write-answer.ensures
+returns c = λ m. word-told m (Calls.same_words _ _) (truth _) refl (ap (λ (b : Bool). uncharged [] (truth b)) (sym c.same.ensures)) c.flag.ensures c.write_answer.ensures
 
 pub mch_same_words_spec : {M : Type 1} → statement M
-mch_same_words_spec = tie.close (tie.spec same-requires flag-requires write-answer-requires returns)
+mch_same_words_spec =
+    tie.close
+    (tie.spec
+    same-requires
+    flag-requires
+    write_answer-requires
+    returns)

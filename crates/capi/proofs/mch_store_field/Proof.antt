@@ -3,23 +3,31 @@ use Rattle.capi.proofs.Laws.{good-loaded, keeps}
 use Rattle.capi.proofs.mch_store_field.Statement.{statement}
 use Rattle.capi.proofs.mch_store_field.Tie as tie
 
-load-requires : tie.Need-load-requires
-load-requires c κs = search rules
+load-h-requires : tie.Need-load-h-requires
+load-h-requires c κs = search rules
 
-store-field-requires : tie.Need-store-field-requires
-store-field-requires c κs = good-loaded c.before.load.ensures c.before.before.before.before.before.before.before.requires
+store_field-a-requires : tie.Need-store_field-a-requires
+store_field-a-requires c κs = good-loaded c.load-h.ensures c.requires
 
 done-requires : tie.Need-done-requires
 done-requires c κs = search rules
 
-write-answer-requires : tie.Need-write-answer-requires
-write-answer-requires c κs = search rules
+write_answer-requires : tie.Need-write_answer-requires
+write_answer-requires c κs = search rules
 
-same_length : tie.Need-same-length
-same_length c = search rules
+shape_of-cells : tie.Need-shape_of-cells
+shape_of-cells c = search rules
 
 returns : tie.Need-returns
-returns c = keeps c.before.before.before.before.before.before.before.load.ensures c.before.before.before.before.before.store_field.ensures c.before.done.ensures c.write-answer.ensures
+returns c = keeps c.load-h.ensures c.store_field-a.ensures c.done.ensures c.write_answer.ensures
 
 pub mch_store_field_spec : {M : Type 1} → statement M
-mch_store_field_spec = tie.close (tie.spec load-requires store-field-requires done-requires write-answer-requires same_length returns)
+mch_store_field_spec =
+    tie.close
+    (tie.spec
+    load-h-requires
+    store_field-a-requires
+    done-requires
+    write_answer-requires
+    shape_of-cells
+    returns)

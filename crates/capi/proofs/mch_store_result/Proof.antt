@@ -3,23 +3,31 @@ use Rattle.capi.proofs.Laws.{good-loaded, keeps}
 use Rattle.capi.proofs.mch_store_result.Statement.{statement}
 use Rattle.capi.proofs.mch_store_result.Tie as tie
 
-load-requires : tie.Need-load-requires
-load-requires c κs = search rules
+load-h-requires : tie.Need-load-h-requires
+load-h-requires c κs = search rules
 
-store-result-requires : tie.Need-store-result-requires
-store-result-requires c κs = good-loaded c.before.load.ensures c.before.before.before.before.before.before.before.requires
+store_result-a-requires : tie.Need-store_result-a-requires
+store_result-a-requires c κs = good-loaded c.load-h.ensures c.requires
 
 done-requires : tie.Need-done-requires
 done-requires c κs = search rules
 
-write-answer-requires : tie.Need-write-answer-requires
-write-answer-requires c κs = search rules
+write_answer-requires : tie.Need-write_answer-requires
+write_answer-requires c κs = search rules
 
-same_length : tie.Need-same-length
-same_length c = search rules
+shape_of-scalars : tie.Need-shape_of-scalars
+shape_of-scalars c = search rules
 
 returns : tie.Need-returns
-returns c = keeps c.before.before.before.before.before.before.before.load.ensures c.before.before.before.before.before.store-result.ensures c.before.done.ensures c.write-answer.ensures
+returns c = keeps c.load-h.ensures c.store_result-a.ensures c.done.ensures c.write_answer.ensures
 
 pub mch_store_result_spec : {M : Type 1} → statement M
-mch_store_result_spec = tie.close (tie.spec load-requires store-result-requires done-requires write-answer-requires same_length returns)
+mch_store_result_spec =
+    tie.close
+    (tie.spec
+    load-h-requires
+    store_result-a-requires
+    done-requires
+    write_answer-requires
+    shape_of-scalars
+    returns)

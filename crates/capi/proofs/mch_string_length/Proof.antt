@@ -3,20 +3,27 @@ use Rattle.capi.proofs.Laws.{good-loaded, keeps}
 use Rattle.capi.proofs.mch_string_length.Statement.{statement}
 use Rattle.capi.proofs.mch_string_length.Tie as tie
 
-load-requires : tie.Need-load-requires
-load-requires c κs = search rules
+load-h-requires : tie.Need-load-h-requires
+load-h-requires c κs = search rules
 
-string-length-requires : tie.Need-string-length-requires
-string-length-requires c κs = good-loaded c.load.ensures c.before.before.before.before.before.before.requires
+string_length-a-requires : tie.Need-string_length-a-requires
+string_length-a-requires c κs = good-loaded c.load-h.ensures c.requires
 
 reading-requires : tie.Need-reading-requires
 reading-requires c κs = search rules
 
-write-answer-requires : tie.Need-write-answer-requires
-write-answer-requires c κs = search rules
+write_answer-requires : tie.Need-write_answer-requires
+write_answer-requires c κs = search rules
 
 returns : tie.Need-returns
-returns c = keeps c.before.before.before.before.load.ensures c.before.before.before.string_length.ensures c.before.reading.ensures c.write-answer.ensures
+returns c = keeps c.load-h.ensures c.string_length-a.ensures c.reading.ensures c.write_answer.ensures
 
 pub mch_string_length_spec : {M : Type 1} → statement M
-mch_string_length_spec = tie.close (tie.spec load-requires string-length-requires reading-requires write-answer-requires returns)
+mch_string_length_spec =
+    tie.close
+    (tie.spec
+    load-h-requires
+    string_length-a-requires
+    reading-requires
+    write_answer-requires
+    returns)

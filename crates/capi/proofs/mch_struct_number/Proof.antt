@@ -3,20 +3,27 @@ use Rattle.capi.proofs.Laws.{good-loaded, keeps}
 use Rattle.capi.proofs.mch_struct_number.Statement.{statement}
 use Rattle.capi.proofs.mch_struct_number.Tie as tie
 
-load-requires : tie.Need-load-requires
-load-requires c κs = search rules
+load-h-requires : tie.Need-load-h-requires
+load-h-requires c κs = search rules
 
-struct-number-requires : tie.Need-struct-number-requires
-struct-number-requires c κs = good-loaded c.load.ensures c.before.before.before.before.before.before.requires
+struct_number-a-requires : tie.Need-struct_number-a-requires
+struct_number-a-requires c κs = good-loaded c.load-h.ensures c.requires
 
 reading-requires : tie.Need-reading-requires
 reading-requires c κs = search rules
 
-write-answer-requires : tie.Need-write-answer-requires
-write-answer-requires c κs = search rules
+write_answer-requires : tie.Need-write_answer-requires
+write_answer-requires c κs = search rules
 
 returns : tie.Need-returns
-returns c = keeps c.before.before.before.before.load.ensures c.before.before.before.struct_number.ensures c.before.reading.ensures c.write-answer.ensures
+returns c = keeps c.load-h.ensures c.struct_number-a.ensures c.reading.ensures c.write_answer.ensures
 
 pub mch_struct_number_spec : {M : Type 1} → statement M
-mch_struct_number_spec = tie.close (tie.spec load-requires struct-number-requires reading-requires write-answer-requires returns)
+mch_struct_number_spec =
+    tie.close
+    (tie.spec
+    load-h-requires
+    struct_number-a-requires
+    reading-requires
+    write_answer-requires
+    returns)

@@ -3,20 +3,27 @@ use Rattle.capi.proofs.Laws.{good-loaded, keeps}
 use Rattle.capi.proofs.mch_used_bytes.Statement.{statement}
 use Rattle.capi.proofs.mch_used_bytes.Tie as tie
 
-load-requires : tie.Need-load-requires
-load-requires c κs = search rules
+load-h-requires : tie.Need-load-h-requires
+load-h-requires c κs = search rules
 
-used-bytes-requires : tie.Need-used-bytes-requires
-used-bytes-requires c κs = good-loaded c.load.ensures c.before.before.before.before.before.before.requires
+used_bytes-a-requires : tie.Need-used_bytes-a-requires
+used_bytes-a-requires c κs = good-loaded c.load-h.ensures c.requires
 
 number-requires : tie.Need-number-requires
 number-requires c κs = search rules
 
-write-answer-requires : tie.Need-write-answer-requires
-write-answer-requires c κs = search rules
+write_answer-requires : tie.Need-write_answer-requires
+write_answer-requires c κs = search rules
 
 returns : tie.Need-returns
-returns c = keeps c.before.before.before.before.load.ensures c.before.before.before.used_bytes.ensures c.before.number.ensures c.write-answer.ensures
+returns c = keeps c.load-h.ensures c.used_bytes-a.ensures c.number.ensures c.write_answer.ensures
 
 pub mch_used_bytes_spec : {M : Type 1} → statement M
-mch_used_bytes_spec = tie.close (tie.spec load-requires used-bytes-requires number-requires write-answer-requires returns)
+mch_used_bytes_spec =
+    tie.close
+    (tie.spec
+    load-h-requires
+    used_bytes-a-requires
+    number-requires
+    write_answer-requires
+    returns)

@@ -3,19 +3,25 @@ use Rattle.heap_bench.specs.Loops.{freed_word}
 use Rattle.heap_bench.proofs.freed.Statement.{statement}
 use Rattle.heap_bench.proofs.freed.Tie as tie
 
-enum-known-a : tie.Need-enum-known-a
-enum-known-a c = search rules
+enum_known-a : tie.Need-enum_known-a
+enum_known-a c = search rules
 
-enum-known-a-2 : tie.Need-enum-known-a-2
-enum-known-a-2 c = search rules
+enum_known-a-in-Refused-1 : tie.Need-enum_known-a-in-Refused-1
+enum_known-a-in-Refused-1 c = search rules
 
-returns : tie.Need-returns
+returns-in-Done : tie.Need-returns-in-Done
 unfolding freed_word
-returns c = search rules
+returns-in-Done c = search rules
 
-returns-2 : tie.Need-returns-2
+returns-in-Refused : tie.Need-returns-in-Refused
 unfolding freed_word
-returns-2 c = search rules
+returns-in-Refused c = search rules
 
 pub freed_spec : {M : Type 1} → statement M
-freed_spec = tie.close (tie.spec enum-known-a enum-known-a-2 returns returns-2)
+freed_spec =
+    tie.close
+    (tie.spec
+    enum_known-a
+    enum_known-a-in-Refused-1
+    returns-in-Done
+    returns-in-Refused)

@@ -1,4 +1,4 @@
-use Rattle.std.proofs.Common.{◌-◌, length, sym, refl, ◌∙◌, subst, arith, rules}
+use Rattle.std.proofs.Common.{◌-◌, sym, refl, ◌∙◌, subst, arith, rules}
 use Rattle.heap.specs.State.{state}
 use Rattle.heap_record.specs.Record.{loaded}
 use Rattle.heap_bench.specs.Loops.{steps}
@@ -6,41 +6,41 @@ use Rattle.heap_bench.proofs.Laws.{Summing, run_end, sum-end, sum-start, sum_tur
 use Rattle.heap_bench.proofs.heap_bench_iter_next.Statement.{statement}
 use Rattle.heap_bench.proofs.heap_bench_iter_next.Tie as tie
 
-abbrev invariant_loop : tie.invariant_loop
+abbrev invariant_loop : tie.invariant-loop-i
 invariant_loop heap slots scalars₀ list directory cells w n h i₀ sum₀ scalars i sum = Summing (steps w) n (state (loaded heap) slots scalars₀ list directory cells) i (state h slots scalars list directory cells) sum
 
-abbrev decreases_loop : tie.decreases_loop
+abbrev decreases_loop : tie.decreases-loop-i
 decreases_loop heap slots scalars₀ list directory cells w n h i₀ sum₀ scalars i sum = n - i
 
-load-requires : tie.Need-load-requires invariant_loop decreases_loop
-load-requires c κs = search rules
+load-h-requires : tie.Need-load-h-requires invariant_loop decreases_loop
+load-h-requires c κs = search rules
 
-loop-holds : tie.Need-loop-init invariant_loop decreases_loop
-loop-holds c = sum-start _ _ _ _ c.load.ensures c.before.before.before.before.before.before.requires
+loop-i-init : tie.Need-loop-i-init invariant_loop decreases_loop
+loop-i-init c = sum-start _ _ _ _ c.load-h.ensures c.requires
 
-iter-next-requires : tie.Need-iter-next-requires invariant_loop decreases_loop
-iter-next-requires c κs = c.before.before.loop.invariant.running.good
+iter_next-r-requires : tie.Need-iter_next-r-requires invariant_loop decreases_loop
+iter_next-r-requires c κs = c.loop-i.invariant.running.good
 
 visited-requires : tie.Need-visited-requires invariant_loop decreases_loop
 visited-requires c κs = search rules
 
-wrapping-add-u64-requires : tie.Need-wrapping-add-u64-requires invariant_loop decreases_loop
-wrapping-add-u64-requires c κs = search rules
+wrapping_add_u64-sum-requires : tie.Need-wrapping_add_u64-sum-requires invariant_loop decreases_loop
+wrapping_add_u64-sum-requires c κs = search rules
 
-add-i : tie.Need-overflow-add-i invariant_loop decreases_loop
-add-i c = omega (arith, c.before.before.before.before.before.before.loop-test.true, c.before.before.before.before.before.before.before.before.before.before.before.before.before.before.ranges)
+overflow_add-i : tie.Need-overflow_add-i invariant_loop decreases_loop
+overflow_add-i c = omega (arith, c.loop-i-test.true, c.ranges)
 
-loop-less : tie.Need-loop-smaller invariant_loop decreases_loop
-loop-less c = omega (arith, c.before.before.before.before.before.before.loop-test.true)
+loop-i-smaller : tie.Need-loop-i-smaller invariant_loop decreases_loop
+loop-i-smaller c = omega (arith, c.loop-i-test.true)
 
-loop-again : tie.Need-loop-preserved invariant_loop decreases_loop
-loop-again c = subst (Summing _ _ _ _ _) (sym c.wrapping-add-u64.ensures) (sum_turn _ _ _ _ _ _ _ c.before.before.before.before.before.before.loop-test.true (record { slots = refl; scalars = search rules; directory = refl; cells = refl }) c.before.before.before.before.iter_next.ensures _ _ (c.before.visited.ensures ∙ visit-word _) c.before.before.before.before.before.before.before.loop.invariant)
+loop-i-preserved : tie.Need-loop-i-preserved invariant_loop decreases_loop
+loop-i-preserved c = subst (Summing _ _ _ _ _) (sym c.wrapping_add_u64-sum.ensures) (sum_turn _ _ _ _ _ _ _ c.loop-i-test.true (record { slots = refl; scalars = search rules; directory = refl; cells = refl }) c.iter_next-r.ensures _ _ (c.visited.ensures ∙ visit-word _) c.loop-i.invariant)
 
-same_length : tie.Need-same-length invariant_loop decreases_loop
-same_length c = c.before.loop.invariant.running.sizes.scalars
+shape_of-scalars : tie.Need-shape_of-scalars invariant_loop decreases_loop
+shape_of-scalars c = c.loop-i.invariant.running.sizes.scalars
 
 returns : tie.Need-returns invariant_loop decreases_loop
-returns c = (run_end _ _ _ _ _ c.loop-test.false c.before.loop.invariant.running _ (sym c.before.before.load.ensures), sum-end _ _ _ _ _ c.loop-test.false _ c.before.loop.invariant)
+returns c = (run_end _ _ _ _ _ c.loop-i-test.false c.loop-i.invariant.running _ (sym c.load-h.ensures), sum-end _ _ _ _ _ c.loop-i-test.false _ c.loop-i.invariant)
 
 pub heap_bench_iter_next_spec : {M : Type 1} → statement M
 heap_bench_iter_next_spec =
@@ -48,13 +48,13 @@ heap_bench_iter_next_spec =
     (tie.spec
     invariant_loop
     decreases_loop
-    load-requires
-    loop-holds
-    iter-next-requires
+    load-h-requires
+    loop-i-init
+    iter_next-r-requires
     visited-requires
-    wrapping-add-u64-requires
-    add-i
-    loop-less
-    loop-again
-    same_length
+    wrapping_add_u64-sum-requires
+    overflow_add-i
+    loop-i-smaller
+    loop-i-preserved
+    shape_of-scalars
     returns)

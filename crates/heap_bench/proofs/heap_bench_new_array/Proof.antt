@@ -6,56 +6,56 @@ use Rattle.heap_bench.proofs.Laws.{Filling, fill_end, fill_start, fill_turn, fil
 use Rattle.heap_bench.proofs.heap_bench_new_array.Statement.{statement}
 use Rattle.heap_bench.proofs.heap_bench_new_array.Tie as tie
 
-abbrev invariant_loop : tie.invariant_loop
+abbrev invariant_loop : tie.invariant-loop-i
 invariant_loop heap slots₀ scalars list directory₀ cells₀ t size out₀ h₀ i₀ slots directory cells out h i = Filling (arrays t (to_z w64 size)) (length out₀) (state (loaded heap) slots₀ scalars list directory₀ cells₀) i (state h slots scalars list directory cells) out
 
-abbrev decreases_loop : tie.decreases_loop
+abbrev decreases_loop : tie.decreases-loop-i
 decreases_loop heap slots₀ scalars list directory₀ cells₀ t size out₀ h₀ i₀ slots directory cells out h i = length out₀ - i
 
-load-requires : tie.Need-load-requires invariant_loop decreases_loop
-load-requires c κs = search rules
+load-h-requires : tie.Need-load-h-requires invariant_loop decreases_loop
+load-h-requires c κs = search rules
 
-loop-holds : tie.Need-loop-init invariant_loop decreases_loop
-loop-holds c = fill_start _ _ _ _ c.load.ensures c.before.before.before.before.before.before.before.before.requires _ refl
+loop-i-init : tie.Need-loop-i-init invariant_loop decreases_loop
+loop-i-init c = fill_start _ _ _ _ c.load-h.ensures c.requires _ refl
 
-new-array-requires : tie.Need-new-array-requires invariant_loop decreases_loop
-new-array-requires c κs = c.before.before.before.before.loop.invariant.running.good
+new_array-r-requires : tie.Need-new_array-r-requires invariant_loop decreases_loop
+new_array-r-requires c κs = c.loop-i.invariant.running.good
 
 word-requires : tie.Need-word-requires invariant_loop decreases_loop
 word-requires c κs = search rules
 
-mul-out : tie.Need-overflow-mul-out invariant_loop decreases_loop
-mul-out c = omega (arith, c.before.before.before.before.before.before.before.before.before.before.before.loop-test.true, c.before.before.before.before.before.before.before.before.before.before.before.before.loop.invariant.long, c.before.before.before.before.before.before.before.before.before.before.before.before.before.before.before.before.before.before.before.before.before.well-formed)
+offset_bounds-out-i : tie.Need-offset_bounds-out-i invariant_loop decreases_loop
+offset_bounds-out-i c = omega (arith, c.loop-i-test.true, c.loop-i.invariant.long, c.well_formed)
 
-slice-write-out : tie.Need-slice-write-out invariant_loop decreases_loop
-slice-write-out c = c.before.before.before.before.before.before.before.before.before.before.before.loop-test.true
+bounds-out-i : tie.Need-bounds-out-i invariant_loop decreases_loop
+bounds-out-i c = c.loop-i-test.true
 
-add-i : tie.Need-overflow-add-i invariant_loop decreases_loop
-add-i c = omega (arith, c.before.before.before.before.before.before.before.before.before.before.before.before.loop-test.true, c.before.before.before.before.before.before.before.before.before.before.before.before.before.before.before.before.before.before.before.before.before.before.well-formed, c.before.before.before.before.before.before.before.before.before.before.before.before.before.loop.invariant.long)
+overflow_add-i : tie.Need-overflow_add-i invariant_loop decreases_loop
+overflow_add-i c = omega (arith, c.loop-i-test.true, c.well_formed, c.loop-i.invariant.long)
 
-loop-less : tie.Need-loop-smaller invariant_loop decreases_loop
-loop-less c = omega (arith, c.before.before.before.before.before.before.before.before.before.before.before.before.loop-test.true, c.before.before.before.before.before.before.before.before.before.before.before.before.before.loop.invariant.long)
+loop-i-smaller : tie.Need-loop-i-smaller invariant_loop decreases_loop
+loop-i-smaller c = omega (arith, c.loop-i-test.true, c.loop-i.invariant.long)
 
-loop-again : tie.Need-loop-preserved invariant_loop decreases_loop
-loop-again c = fill_turn _ _ _ _ _ _ _ (omega (arith, c.before.before.before.before.before.before.before.before.before.before.before.before.loop-test.true, c.before.before.before.before.before.before.before.before.before.before.before.before.before.loop.invariant.long)) (record { slots = search rules; scalars = refl; directory = search rules; cells = search rules }) c.before.before.before.before.before.before.before.before.new_array.ensures _ _ (c.before.word.ensures ∙ made_word _) c.before.before.before.before.before.before.before.before.before.before.before.before.before.loop.invariant
+loop-i-preserved : tie.Need-loop-i-preserved invariant_loop decreases_loop
+loop-i-preserved c = fill_turn _ _ _ _ _ _ _ (omega (arith, c.loop-i-test.true, c.loop-i.invariant.long)) (record { slots = search rules; scalars = refl; directory = search rules; cells = search rules }) c.new_array-r.ensures _ _ (c.word.ensures ∙ made_word _) c.loop-i.invariant
 
 save-requires : tie.Need-save-requires invariant_loop decreases_loop
 save-requires c κs = search rules
 
-same_length : tie.Need-same-length invariant_loop decreases_loop
-same_length c = c.before.before.before.loop.invariant.running.sizes.slots
+shape_of-slots : tie.Need-shape_of-slots invariant_loop decreases_loop
+shape_of-slots c = c.loop-i.invariant.running.sizes.slots
 
-same-length-2 : tie.Need-same-length-2 invariant_loop decreases_loop
-same-length-2 c = c.before.before.before.loop.invariant.running.sizes.directory
+shape_of-directory : tie.Need-shape_of-directory invariant_loop decreases_loop
+shape_of-directory c = c.loop-i.invariant.running.sizes.directory
 
-same-length-3 : tie.Need-same-length-3 invariant_loop decreases_loop
-same-length-3 c = c.before.before.before.loop.invariant.running.sizes.cells
+shape_of-cells : tie.Need-shape_of-cells invariant_loop decreases_loop
+shape_of-cells c = c.loop-i.invariant.running.sizes.cells
 
-same-length-4 : tie.Need-same-length-4 invariant_loop decreases_loop
-same-length-4 c = c.before.before.before.loop.invariant.long
+shape_of-out : tie.Need-shape_of-out invariant_loop decreases_loop
+shape_of-out c = c.loop-i.invariant.long
 
 returns : tie.Need-returns invariant_loop decreases_loop
-returns c = (ran_same (ap (λ (z : ℤ). arrays c.before.before.before.before.before.before.before.before.before.before.before.before.args.t z) (to_z-of_z c.before.before.before.before.before.before.before.before.before.before.before.before.ranges.size)) (run_end _ _ _ _ _ (omega (arith, c.before.before.loop-test.false, c.before.before.before.loop.invariant.long)) c.before.before.before.loop.invariant.running _ c.save.ensures), filled-same (ap (λ (z : ℤ). arrays c.before.before.before.before.before.before.before.before.before.before.before.before.args.t z) (to_z-of_z c.before.before.before.before.before.before.before.before.before.before.before.before.ranges.size)) _ (fill_end _ _ _ _ _ (omega (arith, c.before.before.loop-test.false, c.before.before.before.loop.invariant.long)) _ c.before.before.before.loop.invariant))
+returns c = (ran_same (ap (λ (z : ℤ). arrays c.args.t z) (to_z-of_z c.ranges.size)) (run_end _ _ _ _ _ (omega (arith, c.loop-i-test.false, c.loop-i.invariant.long)) c.loop-i.invariant.running _ c.save.ensures), filled-same (ap (λ (z : ℤ). arrays c.args.t z) (to_z-of_z c.ranges.size)) _ (fill_end _ _ _ _ _ (omega (arith, c.loop-i-test.false, c.loop-i.invariant.long)) _ c.loop-i.invariant))
 
 pub heap_bench_new_array_spec : {M : Type 1} → statement M
 heap_bench_new_array_spec =
@@ -63,18 +63,18 @@ heap_bench_new_array_spec =
     (tie.spec
     invariant_loop
     decreases_loop
-    load-requires
-    loop-holds
-    new-array-requires
+    load-h-requires
+    loop-i-init
+    new_array-r-requires
     word-requires
-    mul-out
-    slice-write-out
-    add-i
-    loop-less
-    loop-again
+    offset_bounds-out-i
+    bounds-out-i
+    overflow_add-i
+    loop-i-smaller
+    loop-i-preserved
     save-requires
-    same_length
-    same-length-2
-    same-length-3
-    same-length-4
+    shape_of-slots
+    shape_of-directory
+    shape_of-cells
+    shape_of-out
     returns)

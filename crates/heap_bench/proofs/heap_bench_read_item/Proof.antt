@@ -6,50 +6,50 @@ use Rattle.heap_bench.proofs.Laws.{Summing, read_word, sum-end, sum-start, sum_t
 use Rattle.heap_bench.proofs.heap_bench_read_item.Statement.{statement}
 use Rattle.heap_bench.proofs.heap_bench_read_item.Tie as tie
 
-abbrev invariant_loop : tie.invariant_loop
+abbrev invariant_loop : tie.invariant-loop-i
 invariant_loop heap slots scalars list directory cells words positions h i₀ sum₀ i sum = Summing (item_reads words positions) (length words) (state (loaded heap) slots scalars list directory cells) i (state h slots scalars list directory cells) sum
 
-abbrev decreases_loop : tie.decreases_loop
+abbrev decreases_loop : tie.decreases-loop-i
 decreases_loop heap slots scalars list directory cells words positions h i₀ sum₀ i sum = length words - i
 
-load-requires : tie.Need-load-requires invariant_loop decreases_loop
-load-requires c κs = search rules
+load-h-requires : tie.Need-load-h-requires invariant_loop decreases_loop
+load-h-requires c κs = search rules
 
-loop-holds : tie.Need-loop-init invariant_loop decreases_loop
-loop-holds c = sum-start _ _ _ _ c.load.ensures c.before.before.before.before.before.before.before.before.requires.0
+loop-i-init : tie.Need-loop-i-init invariant_loop decreases_loop
+loop-i-init c = sum-start _ _ _ _ c.load-h.ensures c.requires.0
 
-mul-w : tie.Need-overflow-mul-w invariant_loop decreases_loop
-mul-w c = omega (arith, c.loop-test.true, c.before.before.before.before.before.before.before.before.before.before.well-formed)
+offset_bounds-words-i : tie.Need-offset_bounds-words-i invariant_loop decreases_loop
+offset_bounds-words-i c = omega (arith, c.loop-i-test.true, c.well_formed)
 
-shared-slice-read-w : tie.Need-shared-slice-read-w invariant_loop decreases_loop
-shared-slice-read-w c = c.before.loop-test.true
+bounds-words-i : tie.Need-bounds-words-i invariant_loop decreases_loop
+bounds-words-i c = c.loop-i-test.true
 
-mul-p : tie.Need-overflow-mul-p invariant_loop decreases_loop
-mul-p c = omega (arith, c.before.loop-test.true, c.before.before.before.before.before.before.before.before.before.before.before.requires.1, c.before.before.before.before.before.before.before.before.before.before.before.well-formed)
+offset_bounds-positions-i : tie.Need-offset_bounds-positions-i invariant_loop decreases_loop
+offset_bounds-positions-i c = omega (arith, c.loop-i-test.true, c.requires.1, c.well_formed)
 
-shared-slice-read-p : tie.Need-shared-slice-read-p invariant_loop decreases_loop
-shared-slice-read-p c = omega (arith, c.before.before.loop-test.true, c.before.before.before.before.before.before.before.before.before.before.before.before.requires.1)
+bounds-positions-i : tie.Need-bounds-positions-i invariant_loop decreases_loop
+bounds-positions-i c = omega (arith, c.loop-i-test.true, c.requires.1)
 
-read-item-requires : tie.Need-read-item-requires invariant_loop decreases_loop
-read-item-requires c κs = c.before.before.before.loop.invariant.running.good
+read_item-r-requires : tie.Need-read_item-r-requires invariant_loop decreases_loop
+read_item-r-requires c κs = c.loop-i.invariant.running.good
 
 word-requires : tie.Need-word-requires invariant_loop decreases_loop
 word-requires c κs = search rules
 
-wrapping-add-u64-requires : tie.Need-wrapping-add-u64-requires invariant_loop decreases_loop
-wrapping-add-u64-requires c κs = search rules
+wrapping_add_u64-sum-requires : tie.Need-wrapping_add_u64-sum-requires invariant_loop decreases_loop
+wrapping_add_u64-sum-requires c κs = search rules
 
-add-i : tie.Need-overflow-add-i invariant_loop decreases_loop
-add-i c = omega (arith, c.before.before.before.before.before.loop-test.true, c.before.before.before.before.before.before.before.before.before.before.before.before.before.before.before.well-formed)
+overflow_add-i : tie.Need-overflow_add-i invariant_loop decreases_loop
+overflow_add-i c = omega (arith, c.loop-i-test.true, c.well_formed)
 
-loop-less : tie.Need-loop-smaller invariant_loop decreases_loop
-loop-less c = omega (arith, c.before.before.before.before.before.loop-test.true)
+loop-i-smaller : tie.Need-loop-i-smaller invariant_loop decreases_loop
+loop-i-smaller c = omega (arith, c.loop-i-test.true)
 
-loop-again : tie.Need-loop-preserved invariant_loop decreases_loop
-loop-again c = subst (Summing _ _ _ _ _) (sym c.wrapping-add-u64.ensures) (sum_turn _ _ _ _ _ _ _ c.before.before.before.before.before.loop-test.true (record { slots = refl; scalars = refl; directory = refl; cells = refl }) c.before.before.read_item.ensures _ _ (c.before.word.ensures ∙ read_word _) c.before.before.before.before.before.before.loop.invariant)
+loop-i-preserved : tie.Need-loop-i-preserved invariant_loop decreases_loop
+loop-i-preserved c = subst (Summing _ _ _ _ _) (sym c.wrapping_add_u64-sum.ensures) (sum_turn _ _ _ _ _ _ _ c.loop-i-test.true (record { slots = refl; scalars = refl; directory = refl; cells = refl }) c.read_item-r.ensures _ _ (c.word.ensures ∙ read_word _) c.loop-i.invariant)
 
 returns : tie.Need-returns invariant_loop decreases_loop
-returns c = sum-end _ _ _ _ _ c.loop-test.false _ c.before.loop.invariant
+returns c = sum-end _ _ _ _ _ c.loop-i-test.false _ c.loop-i.invariant
 
 pub heap_bench_read_item_spec : {M : Type 1} → statement M
 heap_bench_read_item_spec =
@@ -57,16 +57,16 @@ heap_bench_read_item_spec =
     (tie.spec
     invariant_loop
     decreases_loop
-    load-requires
-    loop-holds
-    mul-w
-    shared-slice-read-w
-    mul-p
-    shared-slice-read-p
-    read-item-requires
+    load-h-requires
+    loop-i-init
+    offset_bounds-words-i
+    bounds-words-i
+    offset_bounds-positions-i
+    bounds-positions-i
+    read_item-r-requires
     word-requires
-    wrapping-add-u64-requires
-    add-i
-    loop-less
-    loop-again
+    wrapping_add_u64-sum-requires
+    overflow_add-i
+    loop-i-smaller
+    loop-i-preserved
     returns)

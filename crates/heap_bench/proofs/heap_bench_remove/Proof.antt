@@ -6,59 +6,59 @@ use Rattle.heap_bench.proofs.Laws.{Running, run_end, run-start, run_turn}
 use Rattle.heap_bench.proofs.heap_bench_remove.Statement.{statement}
 use Rattle.heap_bench.proofs.heap_bench_remove.Tie as tie
 
-abbrev invariant_loop : tie.invariant_loop
+abbrev invariant_loop : tie.invariant-loop-i
 invariant_loop heap slots₀ scalars₀ list directory₀ cells₀ w hashes keys h₀ i₀ slots scalars directory cells h i = Running (removals w hashes keys) (length keys) (state (loaded heap) slots₀ scalars₀ list directory₀ cells₀) i (state h slots scalars list directory cells)
 
-abbrev decreases_loop : tie.decreases_loop
+abbrev decreases_loop : tie.decreases-loop-i
 decreases_loop heap slots₀ scalars₀ list directory₀ cells₀ w hashes keys h₀ i₀ slots scalars directory cells h i = length keys - i
 
-load-requires : tie.Need-load-requires invariant_loop decreases_loop
-load-requires c κs = search rules
+load-h-requires : tie.Need-load-h-requires invariant_loop decreases_loop
+load-h-requires c κs = search rules
 
-loop-holds : tie.Need-loop-init invariant_loop decreases_loop
-loop-holds c = run-start _ _ _ _ c.load.ensures c.before.before.before.before.before.before.before.before.before.requires.0
+loop-i-init : tie.Need-loop-i-init invariant_loop decreases_loop
+loop-i-init c = run-start _ _ _ _ c.load-h.ensures c.requires.0
 
-mul-hash : tie.Need-overflow-mul-hash invariant_loop decreases_loop
-mul-hash c = omega (arith, c.loop-test.true, c.before.before.before.before.before.before.before.before.before.before.before.requires.1, c.before.before.before.before.before.before.before.before.before.before.before.well-formed)
+offset_bounds-hashes-i : tie.Need-offset_bounds-hashes-i invariant_loop decreases_loop
+offset_bounds-hashes-i c = omega (arith, c.loop-i-test.true, c.requires.1, c.well_formed)
 
-shared-slice-read-hash : tie.Need-shared-slice-read-hash invariant_loop decreases_loop
-shared-slice-read-hash c = omega (arith, c.before.loop-test.true, c.before.before.before.before.before.before.before.before.before.before.before.before.requires.1)
+bounds-hashes-i : tie.Need-bounds-hashes-i invariant_loop decreases_loop
+bounds-hashes-i c = omega (arith, c.loop-i-test.true, c.requires.1)
 
-mul-key : tie.Need-overflow-mul-key invariant_loop decreases_loop
-mul-key c = omega (arith, c.before.loop-test.true, c.before.before.before.before.before.before.before.before.before.before.before.before.well-formed)
+offset_bounds-keys-i : tie.Need-offset_bounds-keys-i invariant_loop decreases_loop
+offset_bounds-keys-i c = omega (arith, c.loop-i-test.true, c.well_formed)
 
-shared-slice-read-key : tie.Need-shared-slice-read-key invariant_loop decreases_loop
-shared-slice-read-key c = c.before.before.loop-test.true
+bounds-keys-i : tie.Need-bounds-keys-i invariant_loop decreases_loop
+bounds-keys-i c = c.loop-i-test.true
 
-remove-requires : tie.Need-remove-requires invariant_loop decreases_loop
-remove-requires c κs = c.before.before.before.before.before.before.before.loop.invariant.good
+remove-r-requires : tie.Need-remove-r-requires invariant_loop decreases_loop
+remove-r-requires c κs = c.loop-i.invariant.good
 
-add-i : tie.Need-overflow-add-i invariant_loop decreases_loop
-add-i c = omega (arith, c.before.before.before.before.before.before.before.before.before.before.before.before.before.before.before.before.loop-test.true, c.before.before.before.before.before.before.before.before.before.before.before.before.before.before.before.before.before.before.before.before.before.before.before.before.before.before.before.well-formed)
+overflow_add-i : tie.Need-overflow_add-i invariant_loop decreases_loop
+overflow_add-i c = omega (arith, c.loop-i-test.true, c.well_formed)
 
-loop-less : tie.Need-loop-smaller invariant_loop decreases_loop
-loop-less c = omega (arith, c.before.before.before.before.before.before.before.before.before.before.before.before.before.before.before.before.loop-test.true)
+loop-i-smaller : tie.Need-loop-i-smaller invariant_loop decreases_loop
+loop-i-smaller c = omega (arith, c.loop-i-test.true)
 
-loop-again : tie.Need-loop-preserved invariant_loop decreases_loop
-loop-again c = run_turn _ _ _ _ _ _ _ c.before.before.before.before.before.before.before.before.before.before.before.before.before.before.before.before.loop-test.true (record { slots = search rules; scalars = search rules; directory = search rules; cells = search rules }) c.before.before.before.before.before.before.before.before.before.remove.ensures c.before.before.before.before.before.before.before.before.before.before.before.before.before.before.before.before.before.loop.invariant
+loop-i-preserved : tie.Need-loop-i-preserved invariant_loop decreases_loop
+loop-i-preserved c = run_turn _ _ _ _ _ _ _ c.loop-i-test.true (record { slots = search rules; scalars = search rules; directory = search rules; cells = search rules }) c.remove-r.ensures c.loop-i.invariant
 
 save-requires : tie.Need-save-requires invariant_loop decreases_loop
 save-requires c κs = search rules
 
-same_length : tie.Need-same-length invariant_loop decreases_loop
-same_length c = c.before.before.before.loop.invariant.sizes.slots
+shape_of-slots : tie.Need-shape_of-slots invariant_loop decreases_loop
+shape_of-slots c = c.loop-i.invariant.sizes.slots
 
-same-length-2 : tie.Need-same-length-2 invariant_loop decreases_loop
-same-length-2 c = c.before.before.before.loop.invariant.sizes.scalars
+shape_of-scalars : tie.Need-shape_of-scalars invariant_loop decreases_loop
+shape_of-scalars c = c.loop-i.invariant.sizes.scalars
 
-same-length-3 : tie.Need-same-length-3 invariant_loop decreases_loop
-same-length-3 c = c.before.before.before.loop.invariant.sizes.directory
+shape_of-directory : tie.Need-shape_of-directory invariant_loop decreases_loop
+shape_of-directory c = c.loop-i.invariant.sizes.directory
 
-same-length-4 : tie.Need-same-length-4 invariant_loop decreases_loop
-same-length-4 c = c.before.before.before.loop.invariant.sizes.cells
+shape_of-cells : tie.Need-shape_of-cells invariant_loop decreases_loop
+shape_of-cells c = c.loop-i.invariant.sizes.cells
 
 returns : tie.Need-returns invariant_loop decreases_loop
-returns c = run_end _ _ _ _ _ c.before.before.loop-test.false c.before.before.before.loop.invariant _ c.save.ensures
+returns c = run_end _ _ _ _ _ c.loop-i-test.false c.loop-i.invariant _ c.save.ensures
 
 pub heap_bench_remove_spec : {M : Type 1} → statement M
 heap_bench_remove_spec =
@@ -66,19 +66,19 @@ heap_bench_remove_spec =
     (tie.spec
     invariant_loop
     decreases_loop
-    load-requires
-    loop-holds
-    mul-hash
-    shared-slice-read-hash
-    mul-key
-    shared-slice-read-key
-    remove-requires
-    add-i
-    loop-less
-    loop-again
+    load-h-requires
+    loop-i-init
+    offset_bounds-hashes-i
+    bounds-hashes-i
+    offset_bounds-keys-i
+    bounds-keys-i
+    remove-r-requires
+    overflow_add-i
+    loop-i-smaller
+    loop-i-preserved
     save-requires
-    same_length
-    same-length-2
-    same-length-3
-    same-length-4
+    shape_of-slots
+    shape_of-scalars
+    shape_of-directory
+    shape_of-cells
     returns)

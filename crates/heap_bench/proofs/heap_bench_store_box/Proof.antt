@@ -6,47 +6,47 @@ use Rattle.heap_bench.proofs.Laws.{Running, run_end, run-start, run_turn}
 use Rattle.heap_bench.proofs.heap_bench_store_box.Statement.{statement}
 use Rattle.heap_bench.proofs.heap_bench_store_box.Tie as tie
 
-abbrev invariant_loop : tie.invariant_loop
+abbrev invariant_loop : tie.invariant-loop-i
 invariant_loop heap slots₀ scalars list directory cells words values h i₀ slots i = Running (box_stores words values) (length words) (state (loaded heap) slots₀ scalars list directory cells) i (state h slots scalars list directory cells)
 
-abbrev decreases_loop : tie.decreases_loop
+abbrev decreases_loop : tie.decreases-loop-i
 decreases_loop heap slots₀ scalars list directory cells words values h i₀ slots i = length words - i
 
-load-requires : tie.Need-load-requires invariant_loop decreases_loop
-load-requires c κs = search rules
+load-h-requires : tie.Need-load-h-requires invariant_loop decreases_loop
+load-h-requires c κs = search rules
 
-loop-holds : tie.Need-loop-init invariant_loop decreases_loop
-loop-holds c = run-start _ _ _ _ c.load.ensures c.before.before.before.before.before.before.before.before.requires.0
+loop-i-init : tie.Need-loop-i-init invariant_loop decreases_loop
+loop-i-init c = run-start _ _ _ _ c.load-h.ensures c.requires.0
 
-mul-w : tie.Need-overflow-mul-w invariant_loop decreases_loop
-mul-w c = omega (arith, c.loop-test.true, c.before.before.before.before.before.before.before.before.before.before.well-formed)
+offset_bounds-words-i : tie.Need-offset_bounds-words-i invariant_loop decreases_loop
+offset_bounds-words-i c = omega (arith, c.loop-i-test.true, c.well_formed)
 
-shared-slice-read-w : tie.Need-shared-slice-read-w invariant_loop decreases_loop
-shared-slice-read-w c = c.before.loop-test.true
+bounds-words-i : tie.Need-bounds-words-i invariant_loop decreases_loop
+bounds-words-i c = c.loop-i-test.true
 
-mul-v : tie.Need-overflow-mul-v invariant_loop decreases_loop
-mul-v c = omega (arith, c.before.loop-test.true, c.before.before.before.before.before.before.before.before.before.before.before.requires.1, c.before.before.before.before.before.before.before.before.before.before.before.well-formed)
+offset_bounds-values-i : tie.Need-offset_bounds-values-i invariant_loop decreases_loop
+offset_bounds-values-i c = omega (arith, c.loop-i-test.true, c.requires.1, c.well_formed)
 
-shared-slice-read-v : tie.Need-shared-slice-read-v invariant_loop decreases_loop
-shared-slice-read-v c = omega (arith, c.before.before.loop-test.true, c.before.before.before.before.before.before.before.before.before.before.before.before.requires.1)
+bounds-values-i : tie.Need-bounds-values-i invariant_loop decreases_loop
+bounds-values-i c = omega (arith, c.loop-i-test.true, c.requires.1)
 
-store-box-requires : tie.Need-store-box-requires invariant_loop decreases_loop
-store-box-requires c κs = c.before.before.before.before.loop.invariant.good
+store_box-requires : tie.Need-store_box-requires invariant_loop decreases_loop
+store_box-requires c κs = c.loop-i.invariant.good
 
-add-i : tie.Need-overflow-add-i invariant_loop decreases_loop
-add-i c = omega (arith, c.before.before.before.before.before.before.loop-test.true, c.before.before.before.before.before.before.before.before.before.before.before.before.before.before.before.before.well-formed)
+overflow_add-i : tie.Need-overflow_add-i invariant_loop decreases_loop
+overflow_add-i c = omega (arith, c.loop-i-test.true, c.well_formed)
 
-loop-less : tie.Need-loop-smaller invariant_loop decreases_loop
-loop-less c = omega (arith, c.before.before.before.before.before.before.loop-test.true)
+loop-i-smaller : tie.Need-loop-i-smaller invariant_loop decreases_loop
+loop-i-smaller c = omega (arith, c.loop-i-test.true)
 
-loop-again : tie.Need-loop-preserved invariant_loop decreases_loop
-loop-again c = run_turn _ _ _ _ _ _ _ c.before.before.before.before.before.before.loop-test.true (record { slots = search rules; scalars = refl; directory = refl; cells = refl }) c.before.before.store_box.ensures c.before.before.before.before.before.before.before.loop.invariant
+loop-i-preserved : tie.Need-loop-i-preserved invariant_loop decreases_loop
+loop-i-preserved c = run_turn _ _ _ _ _ _ _ c.loop-i-test.true (record { slots = search rules; scalars = refl; directory = refl; cells = refl }) c.store_box.ensures c.loop-i.invariant
 
-same_length : tie.Need-same-length invariant_loop decreases_loop
-same_length c = c.before.loop.invariant.sizes.slots
+shape_of-slots : tie.Need-shape_of-slots invariant_loop decreases_loop
+shape_of-slots c = c.loop-i.invariant.sizes.slots
 
 returns : tie.Need-returns invariant_loop decreases_loop
-returns c = run_end _ _ _ _ _ c.loop-test.false c.before.loop.invariant _ (sym c.before.before.load.ensures)
+returns c = run_end _ _ _ _ _ c.loop-i-test.false c.loop-i.invariant _ (sym c.load-h.ensures)
 
 pub heap_bench_store_box_spec : {M : Type 1} → statement M
 heap_bench_store_box_spec =
@@ -54,15 +54,15 @@ heap_bench_store_box_spec =
     (tie.spec
     invariant_loop
     decreases_loop
-    load-requires
-    loop-holds
-    mul-w
-    shared-slice-read-w
-    mul-v
-    shared-slice-read-v
-    store-box-requires
-    add-i
-    loop-less
-    loop-again
-    same_length
+    load-h-requires
+    loop-i-init
+    offset_bounds-words-i
+    bounds-words-i
+    offset_bounds-values-i
+    bounds-values-i
+    store_box-requires
+    overflow_add-i
+    loop-i-smaller
+    loop-i-preserved
+    shape_of-slots
     returns)

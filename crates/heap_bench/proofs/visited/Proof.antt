@@ -3,27 +3,34 @@ use Rattle.heap_bench.specs.Loops.{visit_word}
 use Rattle.heap_bench.proofs.visited.Statement.{statement}
 use Rattle.heap_bench.proofs.visited.Tie as tie
 
-enum-known-a : tie.Need-enum-known-a
-enum-known-a c = search rules
+enum_known-a : tie.Need-enum_known-a
+enum_known-a c = search rules
 
-enum_told : tie.Need-enum-told
-enum_told c = search rules
+enum_told-1 : tie.Need-enum_told-1
+enum_told-1 c = search rules
 
-enum-known-a-2 : tie.Need-enum-known-a-2
-enum-known-a-2 c = search rules
+enum_known-a-in-Refused-1 : tie.Need-enum_known-a-in-Refused-1
+enum_known-a-in-Refused-1 c = search rules
 
-returns : tie.Need-returns
+returns-in-Is : tie.Need-returns-in-Is
 unfolding visit_word
-returns c = search rules
+returns-in-Is c = search rules
 
-returns-2 : tie.Need-returns-2
+returns-in-Absent : tie.Need-returns-in-Absent
 unfolding visit_word
-returns-2 c = search rules
+returns-in-Absent c = search rules
 
-returns-3 : tie.Need-returns-3
+returns-in-Refused : tie.Need-returns-in-Refused
 unfolding visit_word
-returns-3 c = search rules
+returns-in-Refused c = search rules
 
 pub visited_spec : {M : Type 1} → statement M
 visited_spec =
-    tie.close (tie.spec enum-known-a enum_told enum-known-a-2 returns returns-2 returns-3)
+    tie.close
+    (tie.spec
+    enum_known-a
+    enum_told-1
+    enum_known-a-in-Refused-1
+    returns-in-Is
+    returns-in-Absent
+    returns-in-Refused)

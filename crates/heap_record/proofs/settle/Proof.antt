@@ -5,25 +5,33 @@ use Rattle.heap_record.specs.Record.{Settles}
 use Rattle.heap_record.proofs.settle.Statement.{statement}
 use Rattle.heap_record.proofs.settle.Tie as tie
 
-enum-known-opened : tie.Need-enum-known-opened
-enum-known-opened c = search rules
+enum_known-opened : tie.Need-enum_known-opened
+enum_known-opened c = search rules
 
 save-requires : tie.Need-save-requires
 save-requires c κs = search rules
 
-enum-known-opened-2 : tie.Need-enum-known-opened-2
-enum-known-opened-2 c = search rules
+enum_known-opened-in-Refused-1 : tie.Need-enum_known-opened-in-Refused-1
+enum_known-opened-in-Refused-1 c = search rules
 
-number-of-requires : tie.Need-number-of-requires
-number-of-requires c κs = search rules
+number_of-requires : tie.Need-number_of-requires
+number_of-requires c κs = search rules
 
-returns : tie.Need-returns
+returns-in-Ready : tie.Need-returns-in-Ready
 unfolding Settles
-returns c = rw (c.before.before.before.opened.given.1) (refl, c.save.ensures)
+returns-in-Ready c = rw c.in-Ready.is (refl, c.save.ensures)
 
-returns-2 : tie.Need-returns-2
+returns-in-Refused : tie.Need-returns-in-Refused
 unfolding Settles
-returns-2 c = rw (c.before.before.opened2.given.1) (c.number_of.ensures, refl)
+returns-in-Refused c = rw c.in-Refused.is (c.number_of.ensures, refl)
 
 pub settle_spec : {M : Type 1} → statement M
-settle_spec = tie.close (tie.spec enum-known-opened save-requires enum-known-opened-2 number-of-requires returns returns-2)
+settle_spec =
+    tie.close
+    (tie.spec
+    enum_known-opened
+    save-requires
+    enum_known-opened-in-Refused-1
+    number_of-requires
+    returns-in-Ready
+    returns-in-Refused)

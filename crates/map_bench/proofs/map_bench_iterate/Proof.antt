@@ -10,41 +10,41 @@ use Rattle.map_bench.proofs.Laws.{Walking, walk_start, walk_ends, walk_on, walk_
 use Rattle.map_bench.proofs.map_bench_iterate.Statement.{statement}
 use Rattle.map_bench.proofs.map_bench_iterate.Tie as tie
 
-abbrev invariant_loop : tie.invariant_loop
+abbrev invariant_loop : tie.invariant-loop-i
 invariant_loop words cells n store cursor₀ i₀ cursor i = Walking n i (store_of store cells) (cursor_is cursor)
 
-abbrev decreases_loop : tie.decreases_loop
+abbrev decreases_loop : tie.decreases-loop-i
 decreases_loop words cells n store cursor₀ i₀ cursor i = n - i
 
-load-requires : tie.Need-load-requires invariant_loop decreases_loop
-load-requires c κs = search rules
+load-store-requires : tie.Need-load-store-requires invariant_loop decreases_loop
+load-store-requires c κs = search rules
 
-loop-holds : tie.Need-loop-init invariant_loop decreases_loop
-loop-holds c = walk_start _ _
+loop-i-init : tie.Need-loop-i-init invariant_loop decreases_loop
+loop-i-init c = walk_start _ _
 
-step-requires : tie.Need-step-requires invariant_loop decreases_loop
-step-requires c κs = subst (λ (m : MapStore). Good m c.before.before.before.before.args.cells.now) (sym (c.before.before.load.ensures)) (c.before.before.before.before.requires)
+step-stepped-requires : tie.Need-step-stepped-requires invariant_loop decreases_loop
+step-stepped-requires c κs = subst (λ (m : MapStore). Good m c.args.cells.now) (sym c.load-store.ensures) c.requires
 
-enum_told : tie.Need-enum-told invariant_loop decreases_loop
-enum_told c = search rules
+enum_told-1 : tie.Need-enum_told-1 invariant_loop decreases_loop
+enum_told-1 c = search rules
+
+returns-in-Nothing : tie.Need-returns-in-Nothing invariant_loop decreases_loop
+returns-in-Nothing c = walk_ends _ _ _ _ c.loop-i.invariant c.loop-i-test.true (step_is c.step-stepped.result) c.step-stepped.ensures (ap position c.in-Nothing.is) ∙ ap (λ (m : MapStore). walked c.args.n (store_of m c.args.cells.now) front) c.load-store.ensures
+
+enum_told-in_default : tie.Need-enum_told-in_default invariant_loop decreases_loop
+enum_told-in_default c = search rules
+
+overflow_add-i : tie.Need-overflow_add-i invariant_loop decreases_loop
+overflow_add-i c = omega (arith, c.loop-i-test.true, c.ranges)
+
+loop-i-smaller : tie.Need-loop-i-smaller invariant_loop decreases_loop
+loop-i-smaller c = omega (arith, c.loop-i-test.true)
+
+loop-i-preserved : tie.Need-loop-i-preserved invariant_loop decreases_loop
+loop-i-preserved c = walk_on _ _ _ _ c.loop-i.invariant c.loop-i-test.true (step_is c.step-stepped.result) c.step-stepped.ensures _ (ap position c.in_default.is)
 
 returns : tie.Need-returns invariant_loop decreases_loop
-returns c = walk_ends _ _ _ _ (c.before.before.before.before.loop.invariant) (c.before.before.before.loop-test.true) (step_is (c.before.before.step.result)) (c.before.before.step.ensures) (ap position c.enum_told.given.1) ∙ ap (λ (m : MapStore). walked (c.before.before.before.before.before.before.before.args.n) (store_of m c.before.before.before.before.before.before.before.args.cells.now) front) (c.before.before.before.before.before.load.ensures)
-
-enum-told-2 : tie.Need-enum-told-2 invariant_loop decreases_loop
-enum-told-2 c = search rules
-
-add-i : tie.Need-overflow-add-i invariant_loop decreases_loop
-add-i c = omega (arith, c.before.before.before.before.loop-test.true, c.before.before.before.before.before.before.before.before.ranges)
-
-loop-less : tie.Need-loop-smaller invariant_loop decreases_loop
-loop-less c = omega (arith, c.before.before.before.before.loop-test.true)
-
-loop-again : tie.Need-loop-preserved invariant_loop decreases_loop
-loop-again c = walk_on _ _ _ _ (c.before.before.before.before.before.loop.invariant) (c.before.before.before.before.loop-test.true) (step_is (c.before.before.before.step.result)) (c.before.before.before.step.ensures) _ (ap position c.before.enum-told2.given.1)
-
-returns-2 : tie.Need-returns-2 invariant_loop decreases_loop
-returns-2 c = walk_done _ _ _ _ (c.before.loop.invariant) (c.loop-test.false) ∙ ap (λ (m : MapStore). walked (c.before.before.before.before.args.n) (store_of m c.before.before.before.before.args.cells.now) front) (c.before.before.load.ensures)
+returns c = walk_done _ _ _ _ c.loop-i.invariant c.loop-i-test.false ∙ ap (λ (m : MapStore). walked c.args.n (store_of m c.args.cells.now) front) c.load-store.ensures
 
 pub map_bench_iterate_spec : {M : Type 1} → statement M
 map_bench_iterate_spec =
@@ -52,13 +52,13 @@ map_bench_iterate_spec =
     (tie.spec
     invariant_loop
     decreases_loop
-    load-requires
-    loop-holds
-    step-requires
-    enum_told
-    returns
-    enum-told-2
-    add-i
-    loop-less
-    loop-again
-    returns-2)
+    load-store-requires
+    loop-i-init
+    step-stepped-requires
+    enum_told-1
+    returns-in-Nothing
+    enum_told-in_default
+    overflow_add-i
+    loop-i-smaller
+    loop-i-preserved
+    returns)

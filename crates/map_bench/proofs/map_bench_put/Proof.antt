@@ -8,65 +8,65 @@ use Rattle.map_bench.proofs.Laws.{Running, run-start, run_end, put_zero, put-not
 use Rattle.map_bench.proofs.map_bench_put.Statement.{statement}
 use Rattle.map_bench.proofs.map_bench_put.Tie as tie
 
-abbrev invariant_loop : tie.invariant_loop
+abbrev invariant_loop : tie.invariant-loop-i
 invariant_loop words₀ cells₀ hashes keys store₀ i₀ words cells store i = Running (put_to hashes keys) words₀ cells₀ cells store i
 
-abbrev decreases_loop : tie.decreases_loop
+abbrev decreases_loop : tie.decreases-loop-i
 decreases_loop words₀ cells₀ hashes keys store₀ i₀ words cells store i = length keys - i
 
-load-requires : tie.Need-load-requires invariant_loop decreases_loop
-load-requires c κs = search rules
+load-store-requires : tie.Need-load-store-requires invariant_loop decreases_loop
+load-store-requires c κs = search rules
 
-loop-holds : tie.Need-loop-init invariant_loop decreases_loop
-loop-holds c = run-start _ _ _ _ (c.load.ensures) (put_zero _ _) (c.before.before.before.before.before.requires.0)
+loop-i-init : tie.Need-loop-i-init invariant_loop decreases_loop
+loop-i-init c = run-start _ _ _ _ c.load-store.ensures (put_zero _ _) c.requires.0
 
-mul-hash : tie.Need-overflow-mul-hash invariant_loop decreases_loop
-mul-hash c = omega (arith, c.loop-test.true, c.before.before.before.before.before.before.before.well-formed)
+offset_bounds-hashes-i : tie.Need-offset_bounds-hashes-i invariant_loop decreases_loop
+offset_bounds-hashes-i c = omega (arith, c.loop-i-test.true, c.well_formed)
 
-shared-slice-read-hash : tie.Need-shared-slice-read-hash invariant_loop decreases_loop
-shared-slice-read-hash c = omega (arith, c.before.loop-test.true, c.before.before.before.before.before.before.before.before.requires.1)
+bounds-hashes-i : tie.Need-bounds-hashes-i invariant_loop decreases_loop
+bounds-hashes-i c = omega (arith, c.loop-i-test.true, c.requires.1)
 
-mul-key : tie.Need-overflow-mul-key invariant_loop decreases_loop
-mul-key c = omega (arith, c.before.loop-test.true, c.before.before.before.before.before.before.before.before.well-formed)
+offset_bounds-keys-i : tie.Need-offset_bounds-keys-i invariant_loop decreases_loop
+offset_bounds-keys-i c = omega (arith, c.loop-i-test.true, c.well_formed)
 
-shared-slice-read-key : tie.Need-shared-slice-read-key invariant_loop decreases_loop
-shared-slice-read-key c = c.before.before.loop-test.true
+bounds-keys-i : tie.Need-bounds-keys-i invariant_loop decreases_loop
+bounds-keys-i c = c.loop-i-test.true
 
-put-requires : tie.Need-put-requires invariant_loop decreases_loop
-put-requires c κs = c.before.before.before.before.loop.invariant.good
+put-out-requires : tie.Need-put-out-requires invariant_loop decreases_loop
+put-out-requires c κs = c.loop-i.invariant.good
 
-enum-known-out : tie.Need-enum-known-out invariant_loop decreases_loop
-enum-known-out c = search rules
+enum_known-out : tie.Need-enum_known-out invariant_loop decreases_loop
+enum_known-out c = search rules
 
-enum_told : tie.Need-enum-told invariant_loop decreases_loop
-enum_told c = search rules
+enum_told-1 : tie.Need-enum_told-1 invariant_loop decreases_loop
+enum_told-1 c = search rules
 
 save-requires : tie.Need-save-requires invariant_loop decreases_loop
 save-requires c κs = search rules
 
-same_length : tie.Need-same-length invariant_loop decreases_loop
-same_length c = c.before.before.before.before.before.before.put.auto.1.0 ∙ c.before.before.before.before.before.before.before.before.before.before.before.loop.invariant.same-cells
+shape_of-cells-in_default : tie.Need-shape_of-cells-in_default invariant_loop decreases_loop
+shape_of-cells-in_default c = c.put-out.auto.cells ∙ c.loop-i.invariant.same-cells
 
-returns : tie.Need-returns invariant_loop decreases_loop
-returns c = run_end _ _ _ _ _ _ (put_stop _ _ _ _ _ _ _ (c.before.before.before.before.before.before.before.before.before.before.before.loop.invariant) _ _ (c.before.before.before.before.before.before.put.ensures) c.before.before.enum_told.given.1) (put-noted _ _ _) _ (c.save.ensures)
+returns-in_default : tie.Need-returns-in_default invariant_loop decreases_loop
+returns-in_default c = run_end _ _ _ _ _ _ (put_stop _ _ _ _ _ _ _ c.loop-i.invariant _ _ c.put-out.ensures c.in_default.is) (put-noted _ _ _) _ c.save.ensures
 
-add-i : tie.Need-overflow-add-i invariant_loop decreases_loop
-add-i c = omega (arith, c.before.before.before.before.before.before.before.before.before.loop-test.true, c.before.before.before.before.before.before.before.before.before.before.before.before.before.before.before.before.well-formed)
+overflow_add-i : tie.Need-overflow_add-i invariant_loop decreases_loop
+overflow_add-i c = omega (arith, c.loop-i-test.true, c.well_formed)
 
-loop-less : tie.Need-loop-smaller invariant_loop decreases_loop
-loop-less c = omega (arith, c.before.before.before.before.before.before.before.before.before.loop-test.true)
+loop-i-smaller : tie.Need-loop-i-smaller invariant_loop decreases_loop
+loop-i-smaller c = omega (arith, c.loop-i-test.true)
 
-loop-again : tie.Need-loop-preserved invariant_loop decreases_loop
-loop-again c = put-done _ _ _ _ _ _ _ (c.before.before.before.before.before.before.before.before.before.before.loop.invariant) _ _ (c.before.before.before.before.before.put.ensures) _ c.before.out.given.1 c.before.before.before.before.before.put.auto.1.0
+loop-i-preserved : tie.Need-loop-i-preserved invariant_loop decreases_loop
+loop-i-preserved c = put-done _ _ _ _ _ _ _ c.loop-i.invariant _ _ c.put-out.ensures _ c.in-Done.is c.put-out.auto.cells
 
 save-requires-2 : tie.Need-save-requires-2 invariant_loop decreases_loop
 save-requires-2 c κs = search rules
 
-same-length-2 : tie.Need-same-length-2 invariant_loop decreases_loop
-same-length-2 c = c.before.before.before.loop.invariant.same-cells
+shape_of-cells : tie.Need-shape_of-cells invariant_loop decreases_loop
+shape_of-cells c = c.loop-i.invariant.same-cells
 
-returns-2 : tie.Need-returns-2 invariant_loop decreases_loop
-returns-2 c = run_end _ _ _ _ _ _ (c.before.before.before.loop.invariant) (put-noted _ _ _) _ (c.save2.ensures)
+returns : tie.Need-returns invariant_loop decreases_loop
+returns c = run_end _ _ _ _ _ _ c.loop-i.invariant (put-noted _ _ _) _ c.save-2.ensures
 
 pub map_bench_put_spec : {M : Type 1} → statement M
 map_bench_put_spec =
@@ -74,21 +74,21 @@ map_bench_put_spec =
     (tie.spec
     invariant_loop
     decreases_loop
-    load-requires
-    loop-holds
-    mul-hash
-    shared-slice-read-hash
-    mul-key
-    shared-slice-read-key
-    put-requires
-    enum-known-out
-    enum_told
+    load-store-requires
+    loop-i-init
+    offset_bounds-hashes-i
+    bounds-hashes-i
+    offset_bounds-keys-i
+    bounds-keys-i
+    put-out-requires
+    enum_known-out
+    enum_told-1
     save-requires
-    same_length
-    returns
-    add-i
-    loop-less
-    loop-again
+    shape_of-cells-in_default
+    returns-in_default
+    overflow_add-i
+    loop-i-smaller
+    loop-i-preserved
     save-requires-2
-    same-length-2
-    returns-2)
+    shape_of-cells
+    returns)

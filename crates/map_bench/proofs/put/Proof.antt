@@ -8,81 +8,81 @@ use Rattle.map_bench.proofs.put.Tie as tie
 find-requires : tie.Need-find-requires
 find-requires c κs = search rules
 
-enum-known-p : tie.Need-enum-known-p
-enum-known-p c = search rules
+enum_known-p : tie.Need-enum_known-p
+enum_known-p c = search rules
 
-set-value-requires : tie.Need-set-value-requires
-set-value-requires c κs = search rules
+set_value-requires : tie.Need-set_value-requires
+set_value-requires c κs = search rules
 
-same_length : tie.Need-same-length
-same_length c = search rules
+shape_of-cells-in-At : tie.Need-shape_of-cells-in-At
+shape_of-cells-in-At c = search rules
 
-returns : tie.Need-returns
-returns c =
-    let at_set : tie.After-set-value = search in
-    let at_p : tie.After-p = search in
+returns-in-At : tie.Need-returns-in-At
+returns-in-At c =
+    let at_set : tie.After-set_value = search in
+    let at_p : tie.In-At = search in
     let at-find : tie.After-find = search in
-    put-found _ _ _ _ _ _ _ (ap position (sym at_p.p.given.1) ∙ at-find.find.ensures) at_set.set_value.ensures
+    put-found _ _ _ _ _ _ _ (ap position (sym at_p.in-At.is) ∙ at-find.find.ensures) at_set.set_value.ensures
 
-enum_told : tie.Need-enum-told
-enum_told c = search rules
+enum_told-1 : tie.Need-enum_told-1
+enum_told-1 c = search rules
 
-same-length-2 : tie.Need-same-length-2
-same-length-2 c = search rules
+shape_of-cells-then-store-ge4294967296 : tie.Need-shape_of-cells-then-store-ge4294967296
+shape_of-cells-then-store-ge4294967296 c = search rules
 
-returns-2 : tie.Need-returns-2
-returns-2 c =
-    let spent : tie.Then1 = search in
-    let at_told : tie.After-enum-told = search in
+returns-then-store-ge4294967296 : tie.Need-returns-then-store-ge4294967296
+returns-then-store-ge4294967296 c =
+    let spent : tie.Then-store-ge4294967296 = search in
+    let at_told : tie.In-Nothing = search in
     let at-find : tie.After-find = search in
-    put-spent _ _ _ _ _ (ap position (sym at_told.enum_told.given.1) ∙ at-find.find.ensures) spent.if1.taken
+    put-spent _ _ _ _ _ (ap position (sym at_told.in-Nothing.is) ∙ at-find.find.ensures) spent.if-store-ge4294967296.true
 
-cells-after-insert-requires : tie.Need-cells-after-insert-requires
-cells-after-insert-requires c κs = search rules
+cells_after_insert-wanted-requires : tie.Need-cells_after_insert-wanted-requires
+cells_after_insert-wanted-requires c κs = search rules
 
-same-length-3 : tie.Need-same-length-3
-same-length-3 c = search rules
+shape_of-cells-then-cells-wanted : tie.Need-shape_of-cells-then-cells-wanted
+shape_of-cells-then-cells-wanted c = search rules
 
-returns-3 : tie.Need-returns-3
-returns-3 c =
-    let full : tie.Then2 = search in
-    let at-wanted : tie.After-cells-after-insert = search in
-    let left : tie.Else1 = search in
-    let at_told : tie.After-enum-told = search in
+returns-then-cells-wanted : tie.Need-returns-then-cells-wanted
+returns-then-cells-wanted c =
+    let full : tie.Then-cells-wanted = search in
+    let at-wanted : tie.After-cells_after_insert-wanted = search in
+    let left : tie.Else-store-ge4294967296 = search in
+    let at_told : tie.In-Nothing = search in
     let at-find : tie.After-find = search in
-    put_full _ _ _ _ _ (ap position (sym at_told.enum_told.given.1) ∙ at-find.find.ensures) left.if1.left at-wanted.cells-after-insert.ensures full.if2.taken
+    put_full _ _ _ _ _ (ap position (sym at_told.in-Nothing.is) ∙ at-find.find.ensures) left.if-store-ge4294967296.false at-wanted.cells_after_insert-wanted.ensures full.if-cells-wanted.true
 
-insert-requires : tie.Need-insert-requires
-insert-requires c κs = search rules
+insert-r-requires : tie.Need-insert-r-requires
+insert-r-requires c κs = search rules
 
-same-length-4 : tie.Need-same-length-4
-same-length-4 c = search rules
+shape_of-cells-in-Nothing : tie.Need-shape_of-cells-in-Nothing
+shape_of-cells-in-Nothing c = search rules
 
-returns-4 : tie.Need-returns-4
-returns-4 c =
-    let at-insert : tie.After-insert = search in
-    let room : tie.Else2 = search in
-    let at-wanted : tie.After-cells-after-insert = search in
-    let left : tie.Else1 = search in
-    let at_told : tie.After-enum-told = search in
+returns-in-Nothing : tie.Need-returns-in-Nothing
+returns-in-Nothing c =
+    let at-insert : tie.After-insert-r = search in
+    let room : tie.Else-cells-wanted = search in
+    let at-wanted : tie.After-cells_after_insert-wanted = search in
+    let left : tie.Else-store-ge4294967296 = search in
+    let at_told : tie.In-Nothing = search in
     let at-find : tie.After-find = search in
-    put-new _ _ _ _ _ (ap position (sym at_told.enum_told.given.1) ∙ at-find.find.ensures) left.if1.left at-wanted.cells-after-insert.ensures room.if2.left _ _ _ at-insert.insert.ensures
+    put-new _ _ _ _ _ (ap position (sym at_told.in-Nothing.is) ∙ at-find.find.ensures) left.if-store-ge4294967296.false at-wanted.cells_after_insert-wanted.ensures room.if-cells-wanted.false _ _ _ at-insert.insert-r.ensures
 
 pub put_spec : {M : Type 1} → statement M
 put_spec =
     tie.close
     (tie.spec
     find-requires
-    enum-known-p
-    set-value-requires
-    same_length
-    returns
-    enum_told
-    same-length-2
-    returns-2
-    cells-after-insert-requires
-    same-length-3
-    returns-3
-    insert-requires
-    same-length-4
-    returns-4)
+    enum_known-p
+    set_value-requires
+    shape_of-cells-in-At
+    returns-in-At
+    enum_told-1
+    shape_of-cells-then-store-ge4294967296
+    returns-then-store-ge4294967296
+    cells_after_insert-wanted-requires
+    shape_of-cells-then-cells-wanted
+    returns-then-cells-wanted
+    insert-r-requires
+    shape_of-cells-in-Nothing
+    returns-in-Nothing)

@@ -7,243 +7,141 @@ use borrow.Author.Rules.{rules}
 use Rattle.script.proofs.call_turn.Statement.{statement}
 use Rattle.script.proofs.call_turn.Tie as tie
 
--- places before a place
-abbrev from_start : tie.After-perform-in-arg → tie.Start
-from_start c =
-    let at_mid : tie.After-slice-known7 = search in
-    search
+perform_in-t-requires : tie.Need-perform_in-t-requires
+perform_in-t-requires c κs = (c.requires.0.ready, ((c.requires.0.room, c.requires.0.layout, c.requires.0.within), (c.requires.1.1.0.0, c.requires.1.1.0.1, c.requires.1.1.0.2, omega (arith, c.requires.1.1.0.3, c.requires.0.roomy.places))))
 
-abbrev to_places : tie.After-h → tie.After-places
-to_places c = search
-
-abbrev to_bytes : tie.After-places → tie.After-bytes
-to_bytes c = search
-
-abbrev to_order : tie.After-bytes → tie.After-order
-to_order c = search
-
-abbrev to_marks : tie.After-order → tie.After-marks
-to_marks c = search
-
-abbrev to_cells : tie.After-marks → tie.After-cells
-to_cells c = search
-
-abbrev to_directory : tie.After-cells → tie.After-directory
-to_directory c = search
-
-abbrev to_list : tie.After-directory → tie.After-list
-to_list c = search
-
-abbrev to_scalars : tie.After-list → tie.After-scalars
-to_scalars c = search
-
-abbrev to_slots : tie.After-scalars → tie.After-slots
-to_slots c = search
-
-abbrev to_call : tie.After-slots → tie.After-perform-in
-to_call c = search
-
-abbrev from_call : tie.After-perform-in → tie.Start
-from_call c =
-    let at : tie.After-perform-in-arg = search in
-    from_start at
-
-perform-in-requires : tie.Need-perform-in-requires
-perform-in-requires c κs = let at : tie.After-perform-in-arg = search in
-    let start = from_start at in
-    (start.pre.0.ready, ((start.pre.0.room, start.pre.0.layout, start.pre.0.within), (start.pre.1.1.0.0, start.pre.1.1.0.1, start.pre.1.1.0.2, omega (arith, start.pre.1.1.0.3, start.pre.0.roomy.places))))
-
-enum_told : tie.Need-enum-told
-enum_told c = search rules
+enum_told-1 : tie.Need-enum_told-1
+enum_told-1 c = search rules
 
 ended-requires : tie.Need-ended-requires
-ended-requires c κs = let at-h : tie.After-h = search in
-    let at_places = to_places at-h in
-    let at_call = to_call (to_slots (to_scalars (to_list (to_directory (to_cells (to_marks (to_order (to_bytes at_places)))))))) in
-    let start = from_call at_call in
-    omega (arith, start.pre.1.1.1)
+ended-requires c κs = omega (arith, c.requires.1.1.1)
 
-enum-known-q : tie.Need-enum-known-q
-enum-known-q c = search rules
+enum_known-q : tie.Need-enum_known-q
+enum_known-q c = search rules
 
-shown-bytes-requires : tie.Need-shown-bytes-requires
-shown-bytes-requires c κs = search rules
+shown_bytes-m-requires : tie.Need-shown_bytes-m-requires
+shown_bytes-m-requires c κs = search rules
 
-slice-reshare-prefix-put-shown : tie.Need-slice-reshare-prefix-put-shown
-slice-reshare-prefix-put-shown c = let at-h : tie.After-h = search in
-    let at_places = to_places at-h in
-    let at_call = to_call (to_slots (to_scalars (to_list (to_directory (to_cells (to_marks (to_order (to_bytes at_places)))))))) in
-    let start = from_call at_call in
-    omega (arith, at_places.places.given, start.pre.1.1.0.3, start.pre.0.roomy.places)
+slice_bounds-put_shown-end : tie.Need-slice_bounds-put_shown-end
+slice_bounds-put_shown-end c = omega (arith, c.places-1.given, c.requires.1.1.0.3, c.requires.0.roomy.places)
 
-slice-aggregate-put-shown : tie.Need-slice-aggregate-put-shown
-slice-aggregate-put-shown c = let at-h : tie.After-h = search in
-    let at_places = to_places at-h in
-    let at_call = to_call (to_slots (to_scalars (to_list (to_directory (to_cells (to_marks (to_order (to_bytes at_places)))))))) in
-    let start = from_call at_call in
-    sym (length-take-le start.args.n _ (omega (arith, at_places.places.given, start.pre.1.1.0.3, start.pre.0.roomy.places)))
+slice_bounds-put_shown-end-in-Known : tie.Need-slice_bounds-put_shown-end-in-Known
+slice_bounds-put_shown-end-in-Known c = sym (length-take-le c.args.n _ (omega (arith, c.places-1.given, c.requires.1.1.0.3, c.requires.0.roomy.places)))
 
-slice-reshare-prefix-put-shown-2 : tie.Need-slice-reshare-prefix-put-shown-2
-slice-reshare-prefix-put-shown-2 c =
-    let at-shown : tie.After-shown-bytes = search in
-    let at-h : tie.After-h = search in
-    let at_places = to_places at-h in
-    let at-bytes = to_bytes at_places in
-    let at_call = to_call (to_slots (to_scalars (to_list (to_directory (to_cells (to_marks (to_order at-bytes))))))) in
-    let start = from_call at_call in
-    omega (arith, at-shown.shown-bytes.ensures.0, at-bytes.bytes.given, start.pre.1.1.0.2)
+slice_bounds-put_shown-end-in-Known-2 : tie.Need-slice_bounds-put_shown-end-in-Known-2
+slice_bounds-put_shown-end-in-Known-2 c =
+    omega (arith, c.shown_bytes-m.ensures.0, c.bytes-1.given, c.requires.1.1.0.2)
 
-slice-aggregate-put-shown-2 : tie.Need-slice-aggregate-put-shown-2
-slice-aggregate-put-shown-2 c =
-    let at-shown : tie.After-shown-bytes = search in
-    let at-h : tie.After-h = search in
-    let at_places = to_places at-h in
-    let at-bytes = to_bytes at_places in
-    let at_call = to_call (to_slots (to_scalars (to_list (to_directory (to_cells (to_marks (to_order at-bytes))))))) in
-    let start = from_call at_call in
-    sym (length-take-le at-shown.shown-bytes.result _ (omega (arith, at-shown.shown-bytes.ensures.0, at-bytes.bytes.given, start.pre.1.1.0.2)))
+slice_bounds-put_shown-end-in-Known-3 : tie.Need-slice_bounds-put_shown-end-in-Known-3
+slice_bounds-put_shown-end-in-Known-3 c =
+    sym (length-take-le c.shown_bytes-m.result _ (omega (arith, c.shown_bytes-m.ensures.0, c.bytes-1.given, c.requires.1.1.0.2)))
 
-put-shown-requires : tie.Need-put-shown-requires
-put-shown-requires c κs =
-    let at-shown : tie.After-shown-bytes = search in
-    let at-h : tie.After-h = search in
-    let at_places = to_places at-h in
-    let at-bytes = to_bytes at_places in
-    let at_call = to_call (to_slots (to_scalars (to_list (to_directory (to_cells (to_marks (to_order at-bytes))))))) in
-    let start = from_call at_call in
-    let m = shown-few at-shown.shown-bytes.result start.args.s.memory start.args.b at-shown.shown-bytes.ensures.1.0 at-shown.shown-bytes.ensures.1.1 start.pre.1.1.0.4 in
-    (omega (arith, start.pre.1.1.1, start.pre.1.1.0.3, length-take start.args.n at_call.perform-in.last.1.1.1.1.1.1.1.1.1.1.1.1.1.1.1.1.1.0), omega (arith, start.pre.1.1.1, m, length-take at-shown.shown-bytes.result at_call.perform-in.last.1.1.1.1.1.1.1.1.1.1.1.1.1.1.1.1.0))
+put_shown-end-requires : tie.Need-put_shown-end-requires
+put_shown-end-requires c κs =
+    let m = shown-few c.shown_bytes-m.result c.args.s.memory c.args.b c.shown_bytes-m.ensures.1.0 c.shown_bytes-m.ensures.1.1 c.requires.1.1.0.4 in
+    (omega (arith, c.requires.1.1.1, c.requires.1.1.0.3, length-take c.args.n c.perform_in-t.new.places), omega (arith, c.requires.1.1.1, m, length-take c.shown_bytes-m.result c.perform_in-t.new.bytes))
 
-same_length : tie.Need-same-length
-same_length c = let at-h : tie.After-h = search in (to_slots (to_scalars (to_list (to_directory (to_cells (to_marks (to_order (to_bytes (to_places at-h))))))))).slots.given
+shape_of-slots-in-Unknown : tie.Need-shape_of-slots-in-Unknown
+shape_of-slots-in-Unknown c = c.slots-1.given
 
-same-length-2 : tie.Need-same-length-2
-same-length-2 c = let at-h : tie.After-h = search in (to_scalars (to_list (to_directory (to_cells (to_marks (to_order (to_bytes (to_places at-h)))))))).scalars.given
+shape_of-scalars-in-Unknown : tie.Need-shape_of-scalars-in-Unknown
+shape_of-scalars-in-Unknown c = c.scalars-1.given
 
-same-length-3 : tie.Need-same-length-3
-same-length-3 c = let at-h : tie.After-h = search in (to_list (to_directory (to_cells (to_marks (to_order (to_bytes (to_places at-h))))))).list.given
+shape_of-list-in-Unknown : tie.Need-shape_of-list-in-Unknown
+shape_of-list-in-Unknown c = c.list-1.given
 
-same-length-4 : tie.Need-same-length-4
-same-length-4 c = let at-h : tie.After-h = search in (to_directory (to_cells (to_marks (to_order (to_bytes (to_places at-h)))))).directory.given
+shape_of-directory-in-Unknown : tie.Need-shape_of-directory-in-Unknown
+shape_of-directory-in-Unknown c = c.directory-1.given
 
-same-length-5 : tie.Need-same-length-5
-same-length-5 c = let at-h : tie.After-h = search in (to_cells (to_marks (to_order (to_bytes (to_places at-h))))).cells.given
+shape_of-cells-in-Unknown : tie.Need-shape_of-cells-in-Unknown
+shape_of-cells-in-Unknown c = c.cells-1.given
 
-same-length-6 : tie.Need-same-length-6
-same-length-6 c = let at-h : tie.After-h = search in (to_marks (to_order (to_bytes (to_places at-h)))).marks.given
+shape_of-marks-in-Unknown : tie.Need-shape_of-marks-in-Unknown
+shape_of-marks-in-Unknown c = c.marks-1.given
 
-same-length-7 : tie.Need-same-length-7
-same-length-7 c = let at-h : tie.After-h = search in (to_order (to_bytes (to_places at-h))).order.given
+shape_of-order-in-Unknown : tie.Need-shape_of-order-in-Unknown
+shape_of-order-in-Unknown c = c.order-1.given
 
-same-length-8 : tie.Need-same-length-8
-same-length-8 c = let at-h : tie.After-h = search in (to_bytes (to_places at-h)).bytes.given
+shape_of-bytes-in-Unknown : tie.Need-shape_of-bytes-in-Unknown
+shape_of-bytes-in-Unknown c = c.bytes-1.given
 
-same-length-9 : tie.Need-same-length-9
-same-length-9 c = let at-h : tie.After-h = search in (to_places at-h).places.given
+shape_of-places-in-Unknown : tie.Need-shape_of-places-in-Unknown
+shape_of-places-in-Unknown c = c.places-1.given
 
-same-length-10 : tie.Need-same-length-10
-same-length-10 c = let at : tie.After-ended = search in at.ended.ensures.text.size
+shape_of-out-in-Unknown : tie.Need-shape_of-out-in-Unknown
+shape_of-out-in-Unknown c = c.ended.ensures.text.size
 
-returns : tie.Need-returns
-returns c =
-    let at-end : tie.After-ended = search in
-    let at_told : tie.After-enum-told = search in
-    let at-h : tie.After-h = search in
-    let at_places = to_places at-h in
-    let at-bytes = to_bytes at_places in
-    let at-order = to_order at-bytes in
-    let at-marks = to_marks at-order in
-    let at_cells = to_cells at-marks in
-    let at-directory = to_directory at_cells in
-    let at-list = to_list at-directory in
-    let at-scalars = to_scalars at-list in
-    let at_slots = to_slots at-scalars in
-    let at_call = to_call at_slots in
-    let start = from_call at_call in
-    unknown_goes start.args.code start.args.o start.args.w start.args.e start.args.b start.args.n start.args.next _ start.pre.0 record { slots = at_slots.slots.given; scalars = at-scalars.scalars.given; list = at-list.list.given; directory = at-directory.directory.given; cells = at_cells.cells.given; marks = at-marks.marks.given; order = at-order.order.given; table = refl; roots = refl; words = refl; bytes = at-bytes.bytes.given; places = at_places.places.given; out = at-end.ended.ensures.text.size } at_call.perform-in.ensures.0 at_call.perform-in.ensures.1 start.pre.1.1.1.0 start.pre.1.1.1.1 start.pre.1.0.1 start.pre.1.0.2 at_told.enum_told.given.1 at-end.ended.ensures refl
+returns-in-Unknown : tie.Need-returns-in-Unknown
+returns-in-Unknown c =
+    unknown_goes c.args.code c.args.o c.args.w c.args.e c.args.b c.args.n c.args.next _ c.requires.0 record { slots = c.slots-1.given; scalars = c.scalars-1.given; list = c.list-1.given; directory = c.directory-1.given; cells = c.cells-1.given; marks = c.marks-1.given; order = c.order-1.given; table = refl; roots = refl; words = refl; bytes = c.bytes-1.given; places = c.places-1.given; out = c.ended.ensures.text.size } c.perform_in-t.ensures.0 c.perform_in-t.ensures.1 c.requires.1.1.1.0 c.requires.1.1.1.1 c.requires.1.0.1 c.requires.1.0.2 c.in-Unknown.is c.ended.ensures refl
 
-same-length-11 : tie.Need-same-length-11
-same-length-11 c = let at-h : tie.After-h = search in (to_slots (to_scalars (to_list (to_directory (to_cells (to_marks (to_order (to_bytes (to_places at-h))))))))).slots.given
+shape_of-slots-in-Known : tie.Need-shape_of-slots-in-Known
+shape_of-slots-in-Known c = c.slots-1.given
 
-same-length-12 : tie.Need-same-length-12
-same-length-12 c = let at-h : tie.After-h = search in (to_scalars (to_list (to_directory (to_cells (to_marks (to_order (to_bytes (to_places at-h)))))))).scalars.given
+shape_of-scalars-in-Known : tie.Need-shape_of-scalars-in-Known
+shape_of-scalars-in-Known c = c.scalars-1.given
 
-same-length-13 : tie.Need-same-length-13
-same-length-13 c = let at-h : tie.After-h = search in (to_list (to_directory (to_cells (to_marks (to_order (to_bytes (to_places at-h))))))).list.given
+shape_of-list-in-Known : tie.Need-shape_of-list-in-Known
+shape_of-list-in-Known c = c.list-1.given
 
-same-length-14 : tie.Need-same-length-14
-same-length-14 c = let at-h : tie.After-h = search in (to_directory (to_cells (to_marks (to_order (to_bytes (to_places at-h)))))).directory.given
+shape_of-directory-in-Known : tie.Need-shape_of-directory-in-Known
+shape_of-directory-in-Known c = c.directory-1.given
 
-same-length-15 : tie.Need-same-length-15
-same-length-15 c = let at-h : tie.After-h = search in (to_cells (to_marks (to_order (to_bytes (to_places at-h))))).cells.given
+shape_of-cells-in-Known : tie.Need-shape_of-cells-in-Known
+shape_of-cells-in-Known c = c.cells-1.given
 
-same-length-16 : tie.Need-same-length-16
-same-length-16 c = let at-h : tie.After-h = search in (to_marks (to_order (to_bytes (to_places at-h)))).marks.given
+shape_of-marks-in-Known : tie.Need-shape_of-marks-in-Known
+shape_of-marks-in-Known c = c.marks-1.given
 
-same-length-17 : tie.Need-same-length-17
-same-length-17 c = let at-h : tie.After-h = search in (to_order (to_bytes (to_places at-h))).order.given
+shape_of-order-in-Known : tie.Need-shape_of-order-in-Known
+shape_of-order-in-Known c = c.order-1.given
 
-same-length-18 : tie.Need-same-length-18
-same-length-18 c = let at-h : tie.After-h = search in (to_bytes (to_places at-h)).bytes.given
+shape_of-bytes-in-Known : tie.Need-shape_of-bytes-in-Known
+shape_of-bytes-in-Known c = c.bytes-1.given
 
-same-length-19 : tie.Need-same-length-19
-same-length-19 c = let at-h : tie.After-h = search in (to_places at-h).places.given
+shape_of-places-in-Known : tie.Need-shape_of-places-in-Known
+shape_of-places-in-Known c = c.places-1.given
 
-same-length-20 : tie.Need-same-length-20
-same-length-20 c = let at : tie.After-put-shown = search in at.put-shown.ensures.size
+shape_of-out-in-Known : tie.Need-shape_of-out-in-Known
+shape_of-out-in-Known c = c.put_shown-end.ensures.size
 
-returns-2 : tie.Need-returns-2
-returns-2 c =
-    let at-line : tie.After-put-shown = search in
-    let at-shown : tie.After-shown-bytes = search in
-    let at-q : tie.After-q = search in
-    let at-h : tie.After-h = search in
-    let at_places = to_places at-h in
-    let at-bytes = to_bytes at_places in
-    let at-order = to_order at-bytes in
-    let at-marks = to_marks at-order in
-    let at_cells = to_cells at-marks in
-    let at-directory = to_directory at_cells in
-    let at-list = to_list at-directory in
-    let at-scalars = to_scalars at-list in
-    let at_slots = to_slots at-scalars in
-    let at_call = to_call at_slots in
-    let start = from_call at_call in
-    known_goes start.args.code start.args.o start.args.w start.args.e start.args.b start.args.n start.args.next _ start.pre.0 record { slots = at_slots.slots.given; scalars = at-scalars.scalars.given; list = at-list.list.given; directory = at-directory.directory.given; cells = at_cells.cells.given; marks = at-marks.marks.given; order = at-order.order.given; table = refl; roots = refl; words = refl; bytes = at-bytes.bytes.given; places = at_places.places.given; out = at-line.put-shown.ensures.size } at_call.perform-in.ensures.0 at_call.perform-in.ensures.1 start.pre.1.1.1.0 start.pre.1.1.1.1 start.args.s at-q.q.given.1 start.pre.1.0.0 refl at-shown.shown-bytes.ensures.1.0 at-line.put-shown.ensures
+returns-in-Known : tie.Need-returns-in-Known
+returns-in-Known c =
+    known_goes c.args.code c.args.o c.args.w c.args.e c.args.b c.args.n c.args.next _ c.requires.0 record { slots = c.slots-1.given; scalars = c.scalars-1.given; list = c.list-1.given; directory = c.directory-1.given; cells = c.cells-1.given; marks = c.marks-1.given; order = c.order-1.given; table = refl; roots = refl; words = refl; bytes = c.bytes-1.given; places = c.places-1.given; out = c.put_shown-end.ensures.size } c.perform_in-t.ensures.0 c.perform_in-t.ensures.1 c.requires.1.1.1.0 c.requires.1.1.1.1 c.args.s c.in-Known.is c.requires.1.0.0 refl c.shown_bytes-m.ensures.1.0 c.put_shown-end.ensures
 
 pub call_turn_spec : {M : Type 1} → statement M
 call_turn_spec =
     tie.close
     (tie.spec
-    perform-in-requires
-    enum_told
+    perform_in-t-requires
+    enum_told-1
     ended-requires
-    enum-known-q
-    shown-bytes-requires
-    slice-reshare-prefix-put-shown
-    slice-aggregate-put-shown
-    slice-reshare-prefix-put-shown-2
-    slice-aggregate-put-shown-2
-    put-shown-requires
-    same_length
-    same-length-2
-    same-length-3
-    same-length-4
-    same-length-5
-    same-length-6
-    same-length-7
-    same-length-8
-    same-length-9
-    same-length-10
-    returns
-    same-length-11
-    same-length-12
-    same-length-13
-    same-length-14
-    same-length-15
-    same-length-16
-    same-length-17
-    same-length-18
-    same-length-19
-    same-length-20
-    returns-2)
+    enum_known-q
+    shown_bytes-m-requires
+    slice_bounds-put_shown-end
+    slice_bounds-put_shown-end-in-Known
+    slice_bounds-put_shown-end-in-Known-2
+    slice_bounds-put_shown-end-in-Known-3
+    put_shown-end-requires
+    shape_of-slots-in-Unknown
+    shape_of-scalars-in-Unknown
+    shape_of-list-in-Unknown
+    shape_of-directory-in-Unknown
+    shape_of-cells-in-Unknown
+    shape_of-marks-in-Unknown
+    shape_of-order-in-Unknown
+    shape_of-bytes-in-Unknown
+    shape_of-places-in-Unknown
+    shape_of-out-in-Unknown
+    returns-in-Unknown
+    shape_of-slots-in-Known
+    shape_of-scalars-in-Known
+    shape_of-list-in-Known
+    shape_of-directory-in-Known
+    shape_of-cells-in-Known
+    shape_of-marks-in-Known
+    shape_of-order-in-Known
+    shape_of-bytes-in-Known
+    shape_of-places-in-Known
+    shape_of-out-in-Known
+    returns-in-Known)

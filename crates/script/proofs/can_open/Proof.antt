@@ -4,86 +4,75 @@ use borrow.Author.Rules.{rules}
 use Rattle.script.proofs.can_open.Statement.{statement}
 use Rattle.script.proofs.can_open.Tie as tie
 
-abbrev from_start : tie.After-weights-in → tie.Start
-from_start c = search
+returns-then-o-lt1 : tie.Need-returns-then-o-lt1
+returns-then-o-lt1 c = no-slots c.args.o c.args.layout.now (omega arith)
 
-returns : tie.Need-returns
-returns c = let start : tie.Start = search in no-slots start.args.o start.args.layout.now (omega arith)
+returns-then-o-gt65536 : tie.Need-returns-then-o-gt65536
+returns-then-o-gt65536 c = many_slots c.args.o c.args.layout.now (omega arith) (omega arith)
 
-returns-2 : tie.Need-returns-2
-returns-2 c = let start : tie.Start = search in many_slots start.args.o start.args.layout.now (omega arith) (omega arith)
+returns-then-o-gt1048576 : tie.Need-returns-then-o-gt1048576
+returns-then-o-gt1048576 c = many_cells c.args.o c.args.layout.now (omega arith) (omega arith) (omega arith)
 
-returns-3 : tie.Need-returns-3
-returns-3 c = let start : tie.Start = search in many_cells start.args.o start.args.layout.now (omega arith) (omega arith) (omega arith)
+weights_in-requires : tie.Need-weights_in-requires
+weights_in-requires c κs = search rules
 
-weights-in-requires : tie.Need-weights-in-requires
-weights-in-requires c κs = search rules
+slice_bounds-open-end : tie.Need-slice_bounds-open-end
+slice_bounds-open-end c = search rules
 
-slice-aggregate-open : tie.Need-slice-aggregate-open
-slice-aggregate-open c = search rules
+slice_bounds-open-end-2 : tie.Need-slice_bounds-open-end-2
+slice_bounds-open-end-2 c = search rules
 
-slice-aggregate-open-2 : tie.Need-slice-aggregate-open-2
-slice-aggregate-open-2 c = search rules
+slice_bounds-open-end-3 : tie.Need-slice_bounds-open-end-3
+slice_bounds-open-end-3 c = search rules
 
-slice-aggregate-open-3 : tie.Need-slice-aggregate-open-3
-slice-aggregate-open-3 c = search rules
+slice_bounds-open-end-4 : tie.Need-slice_bounds-open-end-4
+slice_bounds-open-end-4 c = search rules
 
-slice-aggregate-open-4 : tie.Need-slice-aggregate-open-4
-slice-aggregate-open-4 c = search rules
+slice_bounds-open-end-5 : tie.Need-slice_bounds-open-end-5
+slice_bounds-open-end-5 c = search rules
 
-slice-aggregate-open-5 : tie.Need-slice-aggregate-open-5
-slice-aggregate-open-5 c = search rules
+slice_bounds-open-end-6 : tie.Need-slice_bounds-open-end-6
+slice_bounds-open-end-6 c = search rules
 
-slice-aggregate-open-6 : tie.Need-slice-aggregate-open-6
-slice-aggregate-open-6 c = search rules
+slice_bounds-open-end-7 : tie.Need-slice_bounds-open-end-7
+slice_bounds-open-end-7 c = search rules
 
-slice-aggregate-open-7 : tie.Need-slice-aggregate-open-7
-slice-aggregate-open-7 c = search rules
-
-slice-aggregate-open-8 : tie.Need-slice-aggregate-open-8
-slice-aggregate-open-8 c = search rules
+slice_bounds-open-end-8 : tie.Need-slice_bounds-open-end-8
+slice_bounds-open-end-8 c = search rules
 
 open-requires : tie.Need-open-requires
 open-requires c κs = search rules
 
-enum-known-q : tie.Need-enum-known-q
-enum-known-q c = search rules
+enum_known-q : tie.Need-enum_known-q
+enum_known-q c = search rules
 
-enum-known-h : tie.Need-enum-known-h
-enum-known-h c = search rules
+enum_known-h : tie.Need-enum_known-h
+enum_known-h c = search rules
 
-returns-4 : tie.Need-returns-4
-returns-4 c = let at-q : tie.After-q = search in
-    let at_open : tie.After-open = search in
-    let at-weights : tie.After-weights-in = search in
-    let start = from_start at-weights in
-    told-no {o = start.args.o} at-weights.weights-in.ensures at_open.«open».ensures (omega arith) (omega arith) (omega arith) (omega arith) (omega arith) (omega arith) (omega arith) (omega arith) (omega arith) (omega arith) at-q.q.given.1
+returns-in-Refused : tie.Need-returns-in-Refused
+returns-in-Refused c = told-no {o = c.args.o} c.weights_in.ensures c.«open».ensures (omega arith) (omega arith) (omega arith) (omega arith) (omega arith) (omega arith) (omega arith) (omega arith) (omega arith) (omega arith) c.in-Refused.is
 
-returns-5 : tie.Need-returns-5
-returns-5 c = let at-h : tie.After-h = search in
-    let at_open : tie.After-open = search in
-    let at-weights : tie.After-weights-in = search in
-    let start = from_start at-weights in
-    told-yes {o = start.args.o} at-weights.weights-in.ensures at_open.«open».ensures (omega arith) (omega arith) (omega arith) (omega arith) (omega arith) (omega arith) (omega arith) (omega arith) (omega arith) (omega arith) at-h.h.given.1
+returns-in-Ready : tie.Need-returns-in-Ready
+returns-in-Ready c = told-yes {o = c.args.o} c.weights_in.ensures c.«open».ensures (omega arith) (omega arith) (omega arith) (omega arith) (omega arith) (omega arith) (omega arith) (omega arith) (omega arith) (omega arith) c.in-Ready.is
 
 pub can_open_spec : {M : Type 1} → statement M
 can_open_spec =
     tie.close
     (tie.spec
-    returns
-    returns-2
-    returns-3
-    weights-in-requires
-    slice-aggregate-open
-    slice-aggregate-open-2
-    slice-aggregate-open-3
-    slice-aggregate-open-4
-    slice-aggregate-open-5
-    slice-aggregate-open-6
-    slice-aggregate-open-7
-    slice-aggregate-open-8
+    returns-then-o-lt1
+    returns-then-o-gt65536
+    returns-then-o-gt1048576
+    weights_in-requires
+    slice_bounds-open-end
+    slice_bounds-open-end-2
+    slice_bounds-open-end-3
+    slice_bounds-open-end-4
+    slice_bounds-open-end-5
+    slice_bounds-open-end-6
+    slice_bounds-open-end-7
+    slice_bounds-open-end-8
     open-requires
-    enum-known-q
-    enum-known-h
-    returns-4
-    returns-5)
+    enum_known-q
+    enum_known-h
+    returns-in-Refused
+    returns-in-Ready)

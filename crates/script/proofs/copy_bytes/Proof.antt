@@ -3,43 +3,38 @@ use mathlib.Core.Path.{refl}
 use lib.ListN.{length, take}
 use Rattle.script.proofs.LendLaws.{Filling, copied, copied_more, filling_end, filling_step}
 use native.Mathlib.Omega.{arith}
-use borrow.Author.Rules.{rules}
 use Rattle.script.proofs.copy_bytes.Statement.{statement}
 use Rattle.script.proofs.copy_bytes.Tie as tie
 
-abbrev invariant_loop : tie.invariant_loop
+abbrev invariant_loop : tie.invariant-loop-i
 invariant_loop from bytes₀ i₀ bytes i = Filling (λ n. take n from) bytes₀ (length from) bytes i
 
-abbrev decreases_loop : tie.decreases_loop
+abbrev decreases_loop : tie.decreases-loop-i
 decreases_loop from bytes₀ i₀ bytes i = length from - i
 
-loop-holds : tie.Need-loop-init invariant_loop decreases_loop
-loop-holds c = record { front = refl; inside = omega arith; room = omega arith; size = refl }
+loop-i-init : tie.Need-loop-i-init invariant_loop decreases_loop
+loop-i-init c = record { front = refl; inside = omega arith; room = omega arith; size = refl }
 
-shared-slice-read-bytes : tie.Need-shared-slice-read-bytes invariant_loop decreases_loop
-shared-slice-read-bytes c = omega arith
+bounds-from-i : tie.Need-bounds-from-i invariant_loop decreases_loop
+bounds-from-i c = omega arith
 
-slice-write-bytes : tie.Need-slice-write-bytes invariant_loop decreases_loop
-slice-write-bytes c = let at : tie.At-loop invariant_loop decreases_loop = search in omega (arith, at.loop.inv.room, at.loop.inv.size)
+bounds-bytes-i : tie.Need-bounds-bytes-i invariant_loop decreases_loop
+bounds-bytes-i c = omega (arith, c.loop-i.invariant.room, c.loop-i.invariant.size)
 
-add-i : tie.Need-overflow-add-i invariant_loop decreases_loop
-add-i c = omega arith
+overflow_add-i : tie.Need-overflow_add-i invariant_loop decreases_loop
+overflow_add-i c = omega arith
 
-loop-less : tie.Need-loop-smaller invariant_loop decreases_loop
-loop-less c = omega arith
+loop-i-smaller : tie.Need-loop-i-smaller invariant_loop decreases_loop
+loop-i-smaller c = omega arith
 
-loop-again : tie.Need-loop-preserved invariant_loop decreases_loop
-loop-again c = let at : tie.At-loop invariant_loop decreases_loop = search in
-    let start : tie.Start invariant_loop decreases_loop = search in
-    filling_step _ at.loop.inv (omega arith) (λ h e. copied_more start.args.from.now at.loop.bytes at.loop.i (omega arith) h e)
+loop-i-preserved : tie.Need-loop-i-preserved invariant_loop decreases_loop
+loop-i-preserved c = filling_step _ c.loop-i.invariant (omega arith) (λ h e. copied_more c.args.from.now c.loop-i.bytes c.loop-i.i (omega arith) h e)
 
-same_length : tie.Need-same-length invariant_loop decreases_loop
-same_length c = let at : tie.At-loop invariant_loop decreases_loop = search in at.loop.inv.size
+shape_of-bytes : tie.Need-shape_of-bytes invariant_loop decreases_loop
+shape_of-bytes c = c.loop-i.invariant.size
 
 returns : tie.Need-returns invariant_loop decreases_loop
-returns c = let at : tie.At-loop invariant_loop decreases_loop = search in
-    let start : tie.Start invariant_loop decreases_loop = search in
-    copied start.args.from.now (filling_end at.loop.inv (omega arith))
+returns c = copied c.args.from.now (filling_end c.loop-i.invariant (omega arith))
 
 pub copy_bytes_spec : {M : Type 1} → statement M
 copy_bytes_spec =
@@ -47,11 +42,11 @@ copy_bytes_spec =
     (tie.spec
     invariant_loop
     decreases_loop
-    loop-holds
-    shared-slice-read-bytes
-    slice-write-bytes
-    add-i
-    loop-less
-    loop-again
-    same_length
+    loop-i-init
+    bounds-from-i
+    bounds-bytes-i
+    overflow_add-i
+    loop-i-smaller
+    loop-i-preserved
+    shape_of-bytes
     returns)

@@ -1,20 +1,19 @@
 use Rattle.script.proofs.SessionLaws.{end_line}
-use native.Mathlib.Omega.{arith}
 use borrow.Author.Rules.{rules}
 use Rattle.script.proofs.ended.Statement.{statement}
 use Rattle.script.proofs.ended.Tie as tie
 
-used-by-requires : tie.Need-used-by-requires
-used-by-requires c κs = search rules
+used_by-requires : tie.Need-used_by-requires
+used_by-requires c κs = search rules
 
-put-unknown-requires : tie.Need-put-unknown-requires
-put-unknown-requires c κs = search rules
+put_unknown-e-requires : tie.Need-put_unknown-e-requires
+put_unknown-e-requires c κs = search rules
 
 moved-requires : tie.Need-moved-requires
 moved-requires c κs = search rules
 
-same_length : tie.Need-same-length
-same_length c = search rules
+shape_of-out : tie.Need-shape_of-out
+shape_of-out c = search rules
 
 returns : tie.Need-returns
 returns c = search end_line
@@ -23,8 +22,8 @@ pub ended_spec : {M : Type 1} → statement M
 ended_spec =
     tie.close
     (tie.spec
-    used-by-requires
-    put-unknown-requires
+    used_by-requires
+    put_unknown-e-requires
     moved-requires
-    same_length
+    shape_of-out
     returns)

@@ -4,35 +4,31 @@ use borrow.Author.Rules.{rules}
 use Rattle.script.proofs.lend_bytes.Statement.{statement}
 use Rattle.script.proofs.lend_bytes.Tie as tie
 
-fill-bytes-requires : tie.Need-fill-bytes-requires
-fill-bytes-requires c κs = let start : tie.Start = search in omega (arith, start.pre.0 c.before.if1.true)
+fill_bytes-requires : tie.Need-fill_bytes-requires
+fill_bytes-requires c κs = omega (arith, c.requires.0 c.if-memory-eq1.true)
 
-same_length : tie.Need-same-length
-same_length c = search rules
+shape_of-bytes-then-memory-eq1 : tie.Need-shape_of-bytes-then-memory-eq1
+shape_of-bytes-then-memory-eq1 c = search rules
+
+returns-then-memory-eq1 : tie.Need-returns-then-memory-eq1
+returns-then-memory-eq1 c = λ k e z. lends_buffer c.args.memory k (omega arith) e c.fill_bytes.ensures
+
+copy_bytes-requires : tie.Need-copy_bytes-requires
+copy_bytes-requires c κs = search rules
+
+shape_of-bytes : tie.Need-shape_of-bytes
+shape_of-bytes c = search rules
 
 returns : tie.Need-returns
-returns c = let at_fill_lem : tie.After-fill-bytes = search in
-    let start : tie.Start = search in
-    λ k e z. lends_buffer start.args.memory k (omega arith) e at_fill_lem.fill-bytes.ensures
-
-copy-bytes-requires : tie.Need-copy-bytes-requires
-copy-bytes-requires c κs = search rules
-
-same-length-2 : tie.Need-same-length-2
-same-length-2 c = search rules
-
-returns-2 : tie.Need-returns-2
-returns-2 c = let at_copy : tie.After-copy-bytes = search in
-    let start : tie.Start = search in
-    λ k e z. lends_bytes start.args.memory k c.before.before.before.before.if1.false z at_copy.copy-bytes.ensures
+returns c = λ k e z. lends_bytes c.args.memory k c.if-memory-eq1.false z c.copy_bytes.ensures
 
 pub lend_bytes_spec : {M : Type 1} → statement M
 lend_bytes_spec =
     tie.close
     (tie.spec
-    fill-bytes-requires
-    same_length
-    returns
-    copy-bytes-requires
-    same-length-2
-    returns-2)
+    fill_bytes-requires
+    shape_of-bytes-then-memory-eq1
+    returns-then-memory-eq1
+    copy_bytes-requires
+    shape_of-bytes
+    returns)

@@ -3,43 +3,41 @@ use mathlib.Core.Path.{refl}
 use Rattle.script.specs.Replay.{numbered}
 use Rattle.script.proofs.LendLaws.{Filling, numbered_more, numbered-none, filling_end, filling_step}
 use native.Mathlib.Omega.{arith}
-use borrow.Author.Rules.{rules}
 use Rattle.script.proofs.number_places.Statement.{statement}
 use Rattle.script.proofs.number_places.Tie as tie
 
-abbrev invariant_loop : tie.invariant_loop
+abbrev invariant_loop : tie.invariant-loop-i
 invariant_loop places₀ n i₀ places i = Filling numbered places₀ n places i
 
-abbrev decreases_loop : tie.decreases_loop
+abbrev decreases_loop : tie.decreases-loop-i
 decreases_loop places₀ n i₀ places i = n - i
 
-loop-holds : tie.Need-loop-init invariant_loop decreases_loop
-loop-holds c = record { front = numbered-none c.args.places.now; inside = omega arith; room = omega arith; size = refl }
+loop-i-init : tie.Need-loop-i-init invariant_loop decreases_loop
+loop-i-init c = record { front = numbered-none c.args.places.now; inside = omega arith; room = omega arith; size = refl }
 
-add-places : tie.Need-overflow-add-places invariant_loop decreases_loop
-add-places c = omega arith
+overflow_add-places : tie.Need-overflow_add-places invariant_loop decreases_loop
+overflow_add-places c = omega arith
 
-mul-places : tie.Need-overflow-mul-places invariant_loop decreases_loop
-mul-places c = omega arith
+offset_bounds-places-i : tie.Need-offset_bounds-places-i invariant_loop decreases_loop
+offset_bounds-places-i c = omega arith
 
-slice-write-places : tie.Need-slice-write-places invariant_loop decreases_loop
-slice-write-places c = let at : tie.At-loop invariant_loop decreases_loop = search in omega (arith, at.loop.inv.room, at.loop.inv.size)
+bounds-places-i : tie.Need-bounds-places-i invariant_loop decreases_loop
+bounds-places-i c = omega (arith, c.loop-i.invariant.room, c.loop-i.invariant.size)
 
-add-i : tie.Need-overflow-add-i invariant_loop decreases_loop
-add-i c = omega arith
+overflow_add-i : tie.Need-overflow_add-i invariant_loop decreases_loop
+overflow_add-i c = omega arith
 
-loop-less : tie.Need-loop-smaller invariant_loop decreases_loop
-loop-less c = omega arith
+loop-i-smaller : tie.Need-loop-i-smaller invariant_loop decreases_loop
+loop-i-smaller c = omega arith
 
-loop-again : tie.Need-loop-preserved invariant_loop decreases_loop
-loop-again c = let at : tie.At-loop invariant_loop decreases_loop = search in
-    filling_step (0xAAAAAAAAAAAA0000 + at.loop.i) at.loop.inv (omega arith) (λ h e. numbered_more at.loop.places at.loop.i h e)
+loop-i-preserved : tie.Need-loop-i-preserved invariant_loop decreases_loop
+loop-i-preserved c = filling_step (0xAAAAAAAAAAAA0000 + c.loop-i.i) c.loop-i.invariant (omega arith) (λ h e. numbered_more c.loop-i.places c.loop-i.i h e)
 
-same_length : tie.Need-same-length invariant_loop decreases_loop
-same_length c = let at : tie.At-loop invariant_loop decreases_loop = search in at.loop.inv.size
+shape_of-places : tie.Need-shape_of-places invariant_loop decreases_loop
+shape_of-places c = c.loop-i.invariant.size
 
 returns : tie.Need-returns invariant_loop decreases_loop
-returns c = let at : tie.At-loop invariant_loop decreases_loop = search in filling_end at.loop.inv (omega arith)
+returns c = filling_end c.loop-i.invariant (omega arith)
 
 pub number_places_spec : {M : Type 1} → statement M
 number_places_spec =
@@ -47,12 +45,12 @@ number_places_spec =
     (tie.spec
     invariant_loop
     decreases_loop
-    loop-holds
-    add-places
-    mul-places
-    slice-write-places
-    add-i
-    loop-less
-    loop-again
-    same_length
+    loop-i-init
+    overflow_add-places
+    offset_bounds-places-i
+    bounds-places-i
+    overflow_add-i
+    loop-i-smaller
+    loop-i-preserved
+    shape_of-places
     returns)

@@ -5,147 +5,128 @@ use borrow.Author.Rules.{rules}
 use Rattle.script.proofs.open_turn.Statement.{statement}
 use Rattle.script.proofs.open_turn.Tie as tie
 
-abbrev from_start : tie.After-is-seatable → tie.Start
+abbrev from_start : tie.After-is_seatable → tie.Start
 from_start c =
-    let at_mid : tie.After-slice-known3 = search in
+    let at_mid : tie.After-slice_known-3-1 = search in
     search
 
-is-seatable-requires : tie.Need-is-seatable-requires
-is-seatable-requires c κs = search rules
+is_seatable-requires : tie.Need-is_seatable-requires
+is_seatable-requires c κs = search rules
 
-large-opening-requires : tie.Need-large-opening-requires
-large-opening-requires c κs = let at-seat : tie.After-is-seatable = search in
+large_opening-requires : tie.Need-large_opening-requires
+large_opening-requires c κs = let at-seat : tie.After-is_seatable = search in
     let start = from_start at-seat in
-    (start.pre.1.0.bytes, start.pre.1.0.inside, start.pre.1.1)
+    (start.requires.1.0.bytes, start.requires.1.0.inside, start.requires.1.1)
 
-same_length : tie.Need-same-length
-same_length c = search rules
+shape_of-out-then-not-is_seatable : tie.Need-shape_of-out-then-not-is_seatable
+shape_of-out-then-not-is_seatable c = search rules
 
-returns : tie.Need-returns
-returns c = let at-large : tie.After-large-opening = search in
-    let at-then : tie.Then1 = search in
-    let at-seat : tie.After-is-seatable = search in
+returns-then-not-is_seatable : tie.Need-returns-then-not-is_seatable
+returns-then-not-is_seatable c = let at-seat : tie.After-is_seatable = search in
     let start = from_start at-seat in
-    turned-large start.args.k.operands _ start.args.k.next start.pre.0 start.pre.1.0.onward start.pre.1.0.within at-seat.is-seatable.ensures (not-true _ at-then.if1.taken) at-large.large_opening.ensures
+    turned-large start.args.k.operands _ start.args.k.next start.requires.0 start.requires.1.0.onward start.requires.1.0.within at-seat.is_seatable.ensures (not-true _ c.if-not-is_seatable.true-raw) c.large_opening.ensures
 
-sub-open-in : tie.Need-overflow-sub-open-in
-sub-open-in c = let at-seat : tie.After-is-seatable = search in
+slice_bounds-open_in-count : tie.Need-slice_bounds-open_in-count
+slice_bounds-open_in-count c = let at-seat : tie.After-is_seatable = search in
     let start = from_start at-seat in
-    omega (arith, start.pre.1.0.bytes)
+    omega (arith, start.requires.1.0.bytes)
 
-part-open-in-start : tie.Need-slice-bounds-open-in-start
-part-open-in-start c = let at-seat : tie.After-is-seatable = search in
+slice_bounds-open_in-start : tie.Need-slice_bounds-open_in-start
+slice_bounds-open_in-start c = let at-seat : tie.After-is_seatable = search in
     let start = from_start at-seat in
-    omega (arith, start.pre.1.0.bytes, start.pre.1.0.inside)
+    omega (arith, start.requires.1.0.bytes, start.requires.1.0.inside)
 
-part-open-in-end : tie.Need-slice-bounds-open-in-end
-part-open-in-end c = let at-seat : tie.After-is-seatable = search in
+slice_bounds-open_in-end : tie.Need-slice_bounds-open_in-end
+slice_bounds-open_in-end c = let at-seat : tie.After-is_seatable = search in
     let start = from_start at-seat in
-    omega (arith, start.pre.1.0.bytes, start.pre.1.0.inside)
+    omega (arith, start.requires.1.0.bytes, start.requires.1.0.inside)
 
-open-in-requires : tie.Need-open-in-requires
-open-in-requires c κs = let at-else : tie.Else1 = search in
-    let at-seat : tie.After-is-seatable = search in
+open_in-requires : tie.Need-open_in-requires
+open_in-requires c κs = let at-seat : tie.After-is_seatable = search in
     let start = from_start at-seat in
-    seat-cells start.args.k.operands at-seat.is-seatable.ensures (not-false _ at-else.if1.left) start.pre.0
+    seat-cells start.args.k.operands at-seat.is_seatable.ensures (not-false _ c.if-not-is_seatable.false-raw) start.requires.0
 
-enum-known-q : tie.Need-enum-known-q
-enum-known-q c = search rules
+enum_known-q : tie.Need-enum_known-q
+enum_known-q c = search rules
 
-used-by-requires : tie.Need-used-by-requires
-used-by-requires c κs = search rules
+used_by-requires : tie.Need-used_by-requires
+used_by-requires c κs = search rules
 
-put-line-requires : tie.Need-put-line-requires
-put-line-requires c κs = let at-else : tie.Else1 = search in
-    let at-seat : tie.After-is-seatable = search in
+put_line-e-requires : tie.Need-put_line-e-requires
+put_line-e-requires c κs = let at-seat : tie.After-is_seatable = search in
     let start = from_start at-seat in
-    start.pre.1.1
+    start.requires.1.1
 
 moved-requires : tie.Need-moved-requires
 moved-requires c κs = search rules
 
-enum-known-h : tie.Need-enum-known-h
-enum-known-h c = search rules
+enum_known-h : tie.Need-enum_known-h
+enum_known-h c = search rules
 
-put-line-requires-2 : tie.Need-put-line-requires-2
-put-line-requires-2 c κs = let at-else : tie.Else1 = search in
-    let at-seat : tie.After-is-seatable = search in
+put_line-e-requires-in-Ready : tie.Need-put_line-e-requires-in-Ready
+put_line-e-requires-in-Ready c κs = let at-seat : tie.After-is_seatable = search in
     let start = from_start at-seat in
-    start.pre.1.1
+    start.requires.1.1
 
-same-length-2 : tie.Need-same-length-2
-same-length-2 c = let at : tie.After-marks = search in at.marks.given
+shape_of-marks-in-Refused : tie.Need-shape_of-marks-in-Refused
+shape_of-marks-in-Refused c = c.marks-1.given
 
-same-length-3 : tie.Need-same-length-3
-same-length-3 c = let at : tie.After-order = search in at.order.given
+shape_of-order-in-Refused : tie.Need-shape_of-order-in-Refused
+shape_of-order-in-Refused c = c.order-1.given
 
-same-length-4 : tie.Need-same-length-4
-same-length-4 c = let at : tie.After-table = search in at.table.given
+shape_of-table-in-Refused : tie.Need-shape_of-table-in-Refused
+shape_of-table-in-Refused c = c.table-1.given
 
-same-length-5 : tie.Need-same-length-5
-same-length-5 c = search rules
+shape_of-out-in-Refused : tie.Need-shape_of-out-in-Refused
+shape_of-out-in-Refused c = search rules
 
-returns-2 : tie.Need-returns-2
-returns-2 c = let at_moved : tie.After-moved = search in
-    let at-line : tie.After-put-line = search in
-    let at-used : tie.After-used-by = search in
-    let at-q : tie.After-q = search in
-    let at_table : tie.After-table = search in
-    let at_open : tie.After-open-in = search in
-    let at-else : tie.Else1 = search in
-    let at-seat : tie.After-is-seatable = search in
+returns-in-Refused : tie.Need-returns-in-Refused
+returns-in-Refused c = let at-seat : tie.After-is_seatable = search in
     let start = from_start at-seat in
-    turned-refused start.args.k.operands start.args.k.from start.args.k.to start.args.k.next at-line.put-line.result start.pre.0 at-seat.is-seatable.ensures (not-false _ at-else.if1.left) at_open.open_in.ensures start.pre.1.0.onward start.pre.1.0.within at-q.q.given.1 at-used.used-by.ensures at-line.put-line.ensures at_moved.moved.ensures
+    turned-refused start.args.k.operands start.args.k.from start.args.k.to start.args.k.next c.put_line-e.result start.requires.0 at-seat.is_seatable.ensures (not-false _ c.if-not-is_seatable.false-raw) c.open_in.ensures start.requires.1.0.onward start.requires.1.0.within c.in-Refused.is c.used_by.ensures c.put_line-e.ensures c.moved.ensures
 
-same-length-6 : tie.Need-same-length-6
-same-length-6 c = let at : tie.After-marks = search in at.marks.given
+shape_of-marks-in-Ready : tie.Need-shape_of-marks-in-Ready
+shape_of-marks-in-Ready c = c.marks-1.given
 
-same-length-7 : tie.Need-same-length-7
-same-length-7 c = let at : tie.After-order = search in at.order.given
+shape_of-order-in-Ready : tie.Need-shape_of-order-in-Ready
+shape_of-order-in-Ready c = c.order-1.given
 
-same-length-8 : tie.Need-same-length-8
-same-length-8 c = let at : tie.After-table = search in at.table.given
+shape_of-table-in-Ready : tie.Need-shape_of-table-in-Ready
+shape_of-table-in-Ready c = c.table-1.given
 
-same-length-9 : tie.Need-same-length-9
-same-length-9 c = search rules
+shape_of-out-in-Ready : tie.Need-shape_of-out-in-Ready
+shape_of-out-in-Ready c = search rules
 
-returns-3 : tie.Need-returns-3
-returns-3 c = let at-line : tie.After-put-line2 = search in
-    let at-h : tie.After-h = search in
-    let at_table : tie.After-table = search in
-    let at-order : tie.After-order = search in
-    let at-marks : tie.After-marks = search in
-    let at_open : tie.After-open-in = search in
-    let at-else : tie.Else1 = search in
-    let at-seat : tie.After-is-seatable = search in
+returns-in-Ready : tie.Need-returns-in-Ready
+returns-in-Ready c = let at-seat : tie.After-is_seatable = search in
     let start = from_start at-seat in
-    turned-opened start.args.k.operands start.args.k.from start.args.k.to start.args.k.next at-line.put-line2.result start.pre.0 at-seat.is-seatable.ensures (not-false _ at-else.if1.left) at_open.open_in.ensures start.pre.1.0.onward start.pre.1.0.within _ at-h.h.given.1 start.pre.1.0.bytes start.pre.1.0.inside at_table.table.given at-marks.marks.given at-order.order.given at-line.put-line2.ensures
+    turned-opened start.args.k.operands start.args.k.from start.args.k.to start.args.k.next c.put_line-e-in-Ready.result start.requires.0 at-seat.is_seatable.ensures (not-false _ c.if-not-is_seatable.false-raw) c.open_in.ensures start.requires.1.0.onward start.requires.1.0.within _ c.in-Ready.is start.requires.1.0.bytes start.requires.1.0.inside c.table-1.given c.marks-1.given c.order-1.given c.put_line-e-in-Ready.ensures
 
 pub open_turn_spec : {M : Type 1} → statement M
 open_turn_spec =
     tie.close
     (tie.spec
-    is-seatable-requires
-    large-opening-requires
-    same_length
-    returns
-    sub-open-in
-    part-open-in-start
-    part-open-in-end
-    open-in-requires
-    enum-known-q
-    used-by-requires
-    put-line-requires
+    is_seatable-requires
+    large_opening-requires
+    shape_of-out-then-not-is_seatable
+    returns-then-not-is_seatable
+    slice_bounds-open_in-count
+    slice_bounds-open_in-start
+    slice_bounds-open_in-end
+    open_in-requires
+    enum_known-q
+    used_by-requires
+    put_line-e-requires
     moved-requires
-    enum-known-h
-    put-line-requires-2
-    same-length-2
-    same-length-3
-    same-length-4
-    same-length-5
-    returns-2
-    same-length-6
-    same-length-7
-    same-length-8
-    same-length-9
-    returns-3)
+    enum_known-h
+    put_line-e-requires-in-Ready
+    shape_of-marks-in-Refused
+    shape_of-order-in-Refused
+    shape_of-table-in-Refused
+    shape_of-out-in-Refused
+    returns-in-Refused
+    shape_of-marks-in-Ready
+    shape_of-order-in-Ready
+    shape_of-table-in-Ready
+    shape_of-out-in-Ready
+    returns-in-Ready)

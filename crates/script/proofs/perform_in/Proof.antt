@@ -7,133 +7,108 @@ use borrow.Author.Rules.{rules}
 use Rattle.script.proofs.perform_in.Statement.{statement}
 use Rattle.script.proofs.perform_in.Tie as tie
 
-abbrev from_start : tie.After-perform-arg → tie.Start
-from_start c =
-    let at_mid : tie.After-slice-known7 = search in
-    search
+slice_bounds-perform-end : tie.Need-slice_bounds-perform-end
+slice_bounds-perform-end c = search rules
 
-abbrev from_call : tie.After-perform → tie.Start
-from_call c =
-    let at : tie.After-perform-arg = search in
-    from_start at
+slice_bounds-perform-end-2 : tie.Need-slice_bounds-perform-end-2
+slice_bounds-perform-end-2 c = sym (length-take-le c.args.p.room c.args.cells.now c.requires.1.0.0)
 
-slice-relend-prefix-perform : tie.Need-slice-relend-prefix-perform
-slice-relend-prefix-perform c = search rules
+slice_bounds-perform-count : tie.Need-slice_bounds-perform-count
+slice_bounds-perform-count c = search rules
 
-slice-aggregate-perform : tie.Need-slice-aggregate-perform
-slice-aggregate-perform c = let at : tie.After-perform-arg = search in
-    let start = from_start at in
-    sym (length-take-le start.args.p.room start.args.cells.now start.pre.1.0.0)
+slice_bounds-perform-start : tie.Need-slice_bounds-perform-start
+slice_bounds-perform-start c = search rules
 
-sub-perform : tie.Need-overflow-sub-perform
-sub-perform c = search rules
+slice_bounds-perform-end-3 : tie.Need-slice_bounds-perform-end-3
+slice_bounds-perform-end-3 c = search rules
 
-part-perform-start : tie.Need-slice-bounds-perform-start
-part-perform-start c = search rules
+slice_bounds-perform-end-4 : tie.Need-slice_bounds-perform-end-4
+slice_bounds-perform-end-4 c = sym (length-take-le c.args.w c.args.words.now (omega (arith, c.requires.1.1)))
 
-part-perform-end : tie.Need-slice-bounds-perform-end
-part-perform-end c = search rules
+offset_bounds-words-w : tie.Need-offset_bounds-words-w
+offset_bounds-words-w c =
+    omega (arith, c.requires.1.1, c.well_formed.1.1.1.1.1.1.1.1.1.1.1.1.1.1.1.0)
 
-slice-aggregate-perform-2 : tie.Need-slice-aggregate-perform-2
-slice-aggregate-perform-2 c = let at : tie.After-perform-arg = search in
-    let start = from_start at in
-    sym (length-take-le start.args.w start.args.words.now (omega (arith, start.pre.1.1)))
+slice_bounds-perform-count-2 : tie.Need-slice_bounds-perform-count-2
+slice_bounds-perform-count-2 c = search rules
 
-mul-perform : tie.Need-overflow-mul-perform
-mul-perform c =
-    let at : tie.After-perform-arg = search in
-    let start = from_start at in
-    omega (arith, start.pre.1.1, start.good.1.1.1.1.1.1.1.1.1.1.1.1.1.1.1.0)
+slice_bounds-perform-start-2 : tie.Need-slice_bounds-perform-start-2
+slice_bounds-perform-start-2 c = search rules
 
-sub-perform-2 : tie.Need-overflow-sub-perform-2
-sub-perform-2 c = search rules
+slice_bounds-perform-end-5 : tie.Need-slice_bounds-perform-end-5
+slice_bounds-perform-end-5 c = search rules
 
-part-perform-start-2 : tie.Need-slice-bounds-perform-start-2
-part-perform-start-2 c = search rules
+slice_bounds-perform-end-6 : tie.Need-slice_bounds-perform-end-6
+slice_bounds-perform-end-6 c = search rules
 
-part-perform-end-2 : tie.Need-slice-bounds-perform-end-2
-part-perform-end-2 c = search rules
+slice_bounds-perform-end-7 : tie.Need-slice_bounds-perform-end-7
+slice_bounds-perform-end-7 c = sym (length-take-le c.args.b c.args.bytes.now c.requires.1.1.2)
 
-slice-relend-prefix-perform-2 : tie.Need-slice-relend-prefix-perform-2
-slice-relend-prefix-perform-2 c = search rules
+slice_bounds-perform-end-8 : tie.Need-slice_bounds-perform-end-8
+slice_bounds-perform-end-8 c = search rules
 
-slice-aggregate-perform-3 : tie.Need-slice-aggregate-perform-3
-slice-aggregate-perform-3 c = let at : tie.After-perform-arg = search in
-    let start = from_start at in
-    sym (length-take-le start.args.b start.args.bytes.now start.pre.1.1.2)
-
-slice-relend-prefix-perform-3 : tie.Need-slice-relend-prefix-perform-3
-slice-relend-prefix-perform-3 c = search rules
-
-slice-aggregate-perform-4 : tie.Need-slice-aggregate-perform-4
-slice-aggregate-perform-4 c = let at : tie.After-perform-arg = search in
-    let start = from_start at in
-    sym (length-take-le start.args.n start.args.places.now start.pre.1.1.3)
+slice_bounds-perform-end-9 : tie.Need-slice_bounds-perform-end-9
+slice_bounds-perform-end-9 c = sym (length-take-le c.args.n c.args.places.now c.requires.1.1.3)
 
 perform-requires : tie.Need-perform-requires
 perform-requires c κs = search rules
 
-same_length : tie.Need-same-length
-same_length c = search rules
+shape_of-slots : tie.Need-shape_of-slots
+shape_of-slots c = search rules
 
-same-length-2 : tie.Need-same-length-2
-same-length-2 c = search rules
+shape_of-scalars : tie.Need-shape_of-scalars
+shape_of-scalars c = search rules
 
-same-length-3 : tie.Need-same-length-3
-same-length-3 c = search rules
+shape_of-list : tie.Need-shape_of-list
+shape_of-list c = search rules
 
-same-length-4 : tie.Need-same-length-4
-same-length-4 c = search rules
+shape_of-directory : tie.Need-shape_of-directory
+shape_of-directory c = search rules
 
-same-length-5 : tie.Need-same-length-5
-same-length-5 c = search rules
+shape_of-cells : tie.Need-shape_of-cells
+shape_of-cells c = search rules
 
-same-length-6 : tie.Need-same-length-6
-same-length-6 c = search rules
+shape_of-marks : tie.Need-shape_of-marks
+shape_of-marks c = search rules
 
-same-length-7 : tie.Need-same-length-7
-same-length-7 c = search rules
+shape_of-order : tie.Need-shape_of-order
+shape_of-order c = search rules
 
-same-length-8 : tie.Need-same-length-8
-same-length-8 c = search rules
+shape_of-bytes : tie.Need-shape_of-bytes
+shape_of-bytes c = search rules
 
-same-length-9 : tie.Need-same-length-9
-same-length-9 c = search rules
+shape_of-places : tie.Need-shape_of-places
+shape_of-places c = search rules
 
 returns : tie.Need-returns
-returns c = let at_places : tie.After-places = search in
-    let at-bytes : tie.After-bytes = search in
-    let at_cells : tie.After-cells = search in
-    let at_call : tie.After-perform = search in
-    let start = from_call at_call in
-    front_performed start.args.p.room (drop start.args.p.room start.args.cells.now) start.args.b (drop start.args.b start.args.bytes.now) start.args.n (drop start.args.n start.args.places.now) (omega (arith, at_cells.cells.given, length-take-le start.args.p.room start.args.cells.now start.pre.1.0.0)) (omega (arith, at-bytes.bytes.given, length-take-le start.args.b start.args.bytes.now start.pre.1.1.2)) (omega (arith, at_places.places.given, length-take-le start.args.n start.args.places.now start.pre.1.1.3)) at_call.perform.ensures.0 at_call.perform.ensures.1.0
+returns c = front_performed c.args.p.room (drop c.args.p.room c.args.cells.now) c.args.b (drop c.args.b c.args.bytes.now) c.args.n (drop c.args.n c.args.places.now) (omega (arith, c.cells-1.given, length-take-le c.args.p.room c.args.cells.now c.requires.1.0.0)) (omega (arith, c.bytes-1.given, length-take-le c.args.b c.args.bytes.now c.requires.1.1.2)) (omega (arith, c.places-1.given, length-take-le c.args.n c.args.places.now c.requires.1.1.3)) c.perform.ensures.0 c.perform.ensures.1.0
 
 pub perform_in_spec : {M : Type 1} → statement M
 perform_in_spec =
     tie.close
     (tie.spec
-    slice-relend-prefix-perform
-    slice-aggregate-perform
-    sub-perform
-    part-perform-start
-    part-perform-end
-    slice-aggregate-perform-2
-    mul-perform
-    sub-perform-2
-    part-perform-start-2
-    part-perform-end-2
-    slice-relend-prefix-perform-2
-    slice-aggregate-perform-3
-    slice-relend-prefix-perform-3
-    slice-aggregate-perform-4
+    slice_bounds-perform-end
+    slice_bounds-perform-end-2
+    slice_bounds-perform-count
+    slice_bounds-perform-start
+    slice_bounds-perform-end-3
+    slice_bounds-perform-end-4
+    offset_bounds-words-w
+    slice_bounds-perform-count-2
+    slice_bounds-perform-start-2
+    slice_bounds-perform-end-5
+    slice_bounds-perform-end-6
+    slice_bounds-perform-end-7
+    slice_bounds-perform-end-8
+    slice_bounds-perform-end-9
     perform-requires
-    same_length
-    same-length-2
-    same-length-3
-    same-length-4
-    same-length-5
-    same-length-6
-    same-length-7
-    same-length-8
-    same-length-9
+    shape_of-slots
+    shape_of-scalars
+    shape_of-list
+    shape_of-directory
+    shape_of-cells
+    shape_of-marks
+    shape_of-order
+    shape_of-bytes
+    shape_of-places
     returns)

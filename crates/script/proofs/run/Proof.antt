@@ -1,5 +1,4 @@
 use Prim.Native.Nat.{◌-◌}
-use mathlib.Core.Path.{◌∙◌, sym}
 use lib.ListN.{length}
 use Rattle.script.proofs.RunLaws.{Playing, playing_start, playing_step, plays_all, plays_full}
 use native.Mathlib.Omega.{arith}
@@ -7,212 +6,120 @@ use borrow.Author.Rules.{rules}
 use Rattle.script.proofs.run.Statement.{statement}
 use Rattle.script.proofs.run.Tie as tie
 
-abbrev invariant_loop : tie.invariant_loop
+abbrev invariant_loop : tie.invariant-loop-q
 invariant_loop slots₀ scalars₀ list₀ directory₀ cells₀ marks₀ order₀ table₀ roots₀ words₀ bytes₀ places₀ out₀ input q₀ slots scalars list directory cells marks order table roots words bytes places out q =
     Playing input (record { slots = slots₀; scalars = scalars₀; list = list₀; directory = directory₀; cells = cells₀; marks = marks₀; order = order₀; table = table₀; roots = roots₀; words = words₀; bytes = bytes₀; places = places₀; out = out₀ }) q₀ (record { slots = slots; scalars = scalars; list = list; directory = directory; cells = cells; marks = marks; order = order; table = table; roots = roots; words = words; bytes = bytes; places = places; out = out }) q
 
-abbrev decreases_loop : tie.decreases_loop
+abbrev decreases_loop : tie.decreases-loop-q
 decreases_loop slots₀ scalars₀ list₀ directory₀ cells₀ marks₀ order₀ table₀ roots₀ words₀ bytes₀ places₀ out₀ input q₀ slots scalars list directory cells marks order table roots words bytes places out q = length input - q.at
 
--- places before a place
-abbrev from_start : tie.After-moved invariant_loop decreases_loop → tie.Start invariant_loop decreases_loop
-from_start c =
-    let at_arg : tie.After-slice-known7 invariant_loop decreases_loop = search in
-    search
+moved-q-requires : tie.Need-moved-q-requires invariant_loop decreases_loop
+moved-q-requires c κs = search rules
 
-abbrev to_moved : tie.At-loop invariant_loop decreases_loop → tie.After-moved invariant_loop decreases_loop
-to_moved c = search
+loop-q-init : tie.Need-loop-q-init invariant_loop decreases_loop
+loop-q-init c =
+    playing_start c.requires c.moved-q.ensures
 
-abbrev to_places : tie.After-out invariant_loop decreases_loop → tie.After-places invariant_loop decreases_loop
-to_places c = search
+overflow_sub-out : tie.Need-overflow_sub-out invariant_loop decreases_loop
+overflow_sub-out c = c.loop-q.invariant.ready.end
 
-abbrev to_bytes : tie.After-places invariant_loop decreases_loop → tie.After-bytes invariant_loop decreases_loop
-to_bytes c = search
+shape_of-slots-then-out-q-lt-LINE : tie.Need-shape_of-slots-then-out-q-lt-LINE invariant_loop decreases_loop
+shape_of-slots-then-out-q-lt-LINE c = c.loop-q.invariant.kept.slots
 
-abbrev to_words : tie.After-bytes invariant_loop decreases_loop → tie.After-words invariant_loop decreases_loop
-to_words c = search
+shape_of-scalars-then-out-q-lt-LINE : tie.Need-shape_of-scalars-then-out-q-lt-LINE invariant_loop decreases_loop
+shape_of-scalars-then-out-q-lt-LINE c = c.loop-q.invariant.kept.scalars
 
-abbrev to_roots : tie.After-words invariant_loop decreases_loop → tie.After-roots invariant_loop decreases_loop
-to_roots c = search
+shape_of-list-then-out-q-lt-LINE : tie.Need-shape_of-list-then-out-q-lt-LINE invariant_loop decreases_loop
+shape_of-list-then-out-q-lt-LINE c = c.loop-q.invariant.kept.list
 
-abbrev to_table : tie.After-roots invariant_loop decreases_loop → tie.After-table invariant_loop decreases_loop
-to_table c = search
+shape_of-directory-then-out-q-lt-LINE : tie.Need-shape_of-directory-then-out-q-lt-LINE invariant_loop decreases_loop
+shape_of-directory-then-out-q-lt-LINE c = c.loop-q.invariant.kept.directory
 
-abbrev to_order : tie.After-table invariant_loop decreases_loop → tie.After-order invariant_loop decreases_loop
-to_order c = search
+shape_of-cells-then-out-q-lt-LINE : tie.Need-shape_of-cells-then-out-q-lt-LINE invariant_loop decreases_loop
+shape_of-cells-then-out-q-lt-LINE c = c.loop-q.invariant.kept.cells
 
-abbrev to_marks : tie.After-order invariant_loop decreases_loop → tie.After-marks invariant_loop decreases_loop
-to_marks c = search
+shape_of-marks-then-out-q-lt-LINE : tie.Need-shape_of-marks-then-out-q-lt-LINE invariant_loop decreases_loop
+shape_of-marks-then-out-q-lt-LINE c = c.loop-q.invariant.kept.marks
 
-abbrev to_cells : tie.After-marks invariant_loop decreases_loop → tie.After-cells invariant_loop decreases_loop
-to_cells c = search
+shape_of-order-then-out-q-lt-LINE : tie.Need-shape_of-order-then-out-q-lt-LINE invariant_loop decreases_loop
+shape_of-order-then-out-q-lt-LINE c = c.loop-q.invariant.kept.order
 
-abbrev to_directory : tie.After-cells invariant_loop decreases_loop → tie.After-directory invariant_loop decreases_loop
-to_directory c = search
+shape_of-table-then-out-q-lt-LINE : tie.Need-shape_of-table-then-out-q-lt-LINE invariant_loop decreases_loop
+shape_of-table-then-out-q-lt-LINE c = c.loop-q.invariant.kept.table
 
-abbrev to_list : tie.After-directory invariant_loop decreases_loop → tie.After-list invariant_loop decreases_loop
-to_list c = search
+shape_of-roots-then-out-q-lt-LINE : tie.Need-shape_of-roots-then-out-q-lt-LINE invariant_loop decreases_loop
+shape_of-roots-then-out-q-lt-LINE c = c.loop-q.invariant.kept.roots
 
-abbrev to_scalars : tie.After-list invariant_loop decreases_loop → tie.After-scalars invariant_loop decreases_loop
-to_scalars c = search
+shape_of-words-then-out-q-lt-LINE : tie.Need-shape_of-words-then-out-q-lt-LINE invariant_loop decreases_loop
+shape_of-words-then-out-q-lt-LINE c = c.loop-q.invariant.kept.words
 
-abbrev to_slots : tie.After-scalars invariant_loop decreases_loop → tie.After-slots invariant_loop decreases_loop
-to_slots c = search
+shape_of-bytes-then-out-q-lt-LINE : tie.Need-shape_of-bytes-then-out-q-lt-LINE invariant_loop decreases_loop
+shape_of-bytes-then-out-q-lt-LINE c = c.loop-q.invariant.kept.bytes
 
-abbrev to_turn : tie.After-slots invariant_loop decreases_loop → tie.After-turn invariant_loop decreases_loop
-to_turn c = search
+shape_of-places-then-out-q-lt-LINE : tie.Need-shape_of-places-then-out-q-lt-LINE invariant_loop decreases_loop
+shape_of-places-then-out-q-lt-LINE c = c.loop-q.invariant.kept.places
 
-abbrev to_loop : tie.After-turn invariant_loop decreases_loop → tie.At-loop invariant_loop decreases_loop
-to_loop c =
-    let at_arg : tie.After-turn-arg invariant_loop decreases_loop = search in
-    search
+shape_of-out-then-out-q-lt-LINE : tie.Need-shape_of-out-then-out-q-lt-LINE invariant_loop decreases_loop
+shape_of-out-then-out-q-lt-LINE c = c.loop-q.invariant.kept.out
 
-moved-requires : tie.Need-moved-requires invariant_loop decreases_loop
-moved-requires c κs = search rules
+returns-then-out-q-lt-LINE : tie.Need-returns-then-out-q-lt-LINE invariant_loop decreases_loop
+returns-then-out-q-lt-LINE c =
+    plays_full c.loop-q.invariant c.moved-q.ensures (omega arith)
 
-loop-holds : tie.Need-loop-init invariant_loop decreases_loop
-loop-holds c =
-    let at : tie.After-moved invariant_loop decreases_loop = search in
-    let start = from_start at in
-    playing_start start.pre at.moved.ensures
+turn-q-requires : tie.Need-turn-q-requires invariant_loop decreases_loop
+turn-q-requires c κs =
+    (c.loop-q.invariant.ready, (omega (arith, c.loop-q-test.true), omega (arith, c.if-out-q-lt-LINE.false, c.loop-q.invariant.ready.end)))
 
-sub-if2 : tie.Need-overflow-sub-if2 invariant_loop decreases_loop
-sub-if2 c = let at : tie.At-loop invariant_loop decreases_loop = search in at.loop.inv.ready.end
+loop-q-smaller : tie.Need-loop-q-smaller invariant_loop decreases_loop
+loop-q-smaller c =
+    omega (arith, c.turn-q.ensures.onward, c.turn-q.ensures.ready.inside)
 
-same_length : tie.Need-same-length invariant_loop decreases_loop
-same_length c = let at : tie.At-loop invariant_loop decreases_loop = search in at.loop.inv.kept.slots
+loop-q-preserved : tie.Need-loop-q-preserved invariant_loop decreases_loop
+loop-q-preserved c =
+    playing_step c.loop-q.invariant (omega arith) (record { slots = c.slots-1.given; scalars = c.scalars-1.given; list = c.list-1.given; directory = c.directory-1.given; cells = c.cells-1.given; marks = c.marks-1.given; order = c.order-1.given; table = c.table-1.given; roots = c.roots-1.given; words = c.words-1.given; bytes = c.bytes-1.given; places = c.places-1.given; out = c.out-1.given }) c.turn-q.ensures
 
-same-length-2 : tie.Need-same-length-2 invariant_loop decreases_loop
-same-length-2 c = let at : tie.At-loop invariant_loop decreases_loop = search in at.loop.inv.kept.scalars
+shape_of-slots : tie.Need-shape_of-slots invariant_loop decreases_loop
+shape_of-slots c = c.loop-q.invariant.kept.slots
 
-same-length-3 : tie.Need-same-length-3 invariant_loop decreases_loop
-same-length-3 c = let at : tie.At-loop invariant_loop decreases_loop = search in at.loop.inv.kept.list
+shape_of-scalars : tie.Need-shape_of-scalars invariant_loop decreases_loop
+shape_of-scalars c = c.loop-q.invariant.kept.scalars
 
-same-length-4 : tie.Need-same-length-4 invariant_loop decreases_loop
-same-length-4 c = let at : tie.At-loop invariant_loop decreases_loop = search in at.loop.inv.kept.directory
+shape_of-list : tie.Need-shape_of-list invariant_loop decreases_loop
+shape_of-list c = c.loop-q.invariant.kept.list
 
-same-length-5 : tie.Need-same-length-5 invariant_loop decreases_loop
-same-length-5 c = let at : tie.At-loop invariant_loop decreases_loop = search in at.loop.inv.kept.cells
+shape_of-directory : tie.Need-shape_of-directory invariant_loop decreases_loop
+shape_of-directory c = c.loop-q.invariant.kept.directory
 
-same-length-6 : tie.Need-same-length-6 invariant_loop decreases_loop
-same-length-6 c = let at : tie.At-loop invariant_loop decreases_loop = search in at.loop.inv.kept.marks
+shape_of-cells : tie.Need-shape_of-cells invariant_loop decreases_loop
+shape_of-cells c = c.loop-q.invariant.kept.cells
 
-same-length-7 : tie.Need-same-length-7 invariant_loop decreases_loop
-same-length-7 c = let at : tie.At-loop invariant_loop decreases_loop = search in at.loop.inv.kept.order
+shape_of-marks : tie.Need-shape_of-marks invariant_loop decreases_loop
+shape_of-marks c = c.loop-q.invariant.kept.marks
 
-same-length-8 : tie.Need-same-length-8 invariant_loop decreases_loop
-same-length-8 c = let at : tie.At-loop invariant_loop decreases_loop = search in at.loop.inv.kept.table
+shape_of-order : tie.Need-shape_of-order invariant_loop decreases_loop
+shape_of-order c = c.loop-q.invariant.kept.order
 
-same-length-9 : tie.Need-same-length-9 invariant_loop decreases_loop
-same-length-9 c = let at : tie.At-loop invariant_loop decreases_loop = search in at.loop.inv.kept.roots
+shape_of-table : tie.Need-shape_of-table invariant_loop decreases_loop
+shape_of-table c = c.loop-q.invariant.kept.table
 
-same-length-10 : tie.Need-same-length-10 invariant_loop decreases_loop
-same-length-10 c = let at : tie.At-loop invariant_loop decreases_loop = search in at.loop.inv.kept.words
+shape_of-roots : tie.Need-shape_of-roots invariant_loop decreases_loop
+shape_of-roots c = c.loop-q.invariant.kept.roots
 
-same-length-11 : tie.Need-same-length-11 invariant_loop decreases_loop
-same-length-11 c = let at : tie.At-loop invariant_loop decreases_loop = search in at.loop.inv.kept.bytes
+shape_of-words : tie.Need-shape_of-words invariant_loop decreases_loop
+shape_of-words c = c.loop-q.invariant.kept.words
 
-same-length-12 : tie.Need-same-length-12 invariant_loop decreases_loop
-same-length-12 c = let at : tie.At-loop invariant_loop decreases_loop = search in at.loop.inv.kept.places
+shape_of-bytes : tie.Need-shape_of-bytes invariant_loop decreases_loop
+shape_of-bytes c = c.loop-q.invariant.kept.bytes
 
-same-length-13 : tie.Need-same-length-13 invariant_loop decreases_loop
-same-length-13 c = let at : tie.At-loop invariant_loop decreases_loop = search in at.loop.inv.kept.out
+shape_of-places : tie.Need-shape_of-places invariant_loop decreases_loop
+shape_of-places c = c.loop-q.invariant.kept.places
+
+shape_of-out : tie.Need-shape_of-out invariant_loop decreases_loop
+shape_of-out c = c.loop-q.invariant.kept.out
 
 returns : tie.Need-returns invariant_loop decreases_loop
 returns c =
-    let at : tie.At-loop invariant_loop decreases_loop = search in
-    let at_moved = to_moved at in
-    plays_full at.loop.inv at_moved.moved.ensures (omega arith)
-
-turn-requires : tie.Need-turn-requires invariant_loop decreases_loop
-turn-requires c κs =
-    let at-else : tie.Else2 invariant_loop decreases_loop = search in
-    let at-then : tie.Then1 invariant_loop decreases_loop = search in
-    let at : tie.At-loop invariant_loop decreases_loop = search in
-    (at.loop.inv.ready, (omega (arith, at-then.if1.taken), omega (arith, at-else.if2.left, at.loop.inv.ready.end)))
-
-loop-less : tie.Need-loop-smaller invariant_loop decreases_loop
-loop-less c =
-    let at_out : tie.After-out invariant_loop decreases_loop = search in
-    let at_places = to_places at_out in
-    let at-bytes = to_bytes at_places in
-    let at_words = to_words at-bytes in
-    let at-roots = to_roots at_words in
-    let at_table = to_table at-roots in
-    let at-order = to_order at_table in
-    let at-marks = to_marks at-order in
-    let at_cells = to_cells at-marks in
-    let at-directory = to_directory at_cells in
-    let at-list = to_list at-directory in
-    let at-scalars = to_scalars at-list in
-    let at_slots = to_slots at-scalars in
-    let at_turn = to_turn at_slots in
-    let at = to_loop at_turn in
-    omega (arith, at_turn.turn.ensures.onward, at_turn.turn.ensures.ready.inside)
-
-loop-again : tie.Need-loop-preserved invariant_loop decreases_loop
-loop-again c =
-    let at_out : tie.After-out invariant_loop decreases_loop = search in
-    let at_places = to_places at_out in
-    let at-bytes = to_bytes at_places in
-    let at_words = to_words at-bytes in
-    let at-roots = to_roots at_words in
-    let at_table = to_table at-roots in
-    let at-order = to_order at_table in
-    let at-marks = to_marks at-order in
-    let at_cells = to_cells at-marks in
-    let at-directory = to_directory at_cells in
-    let at-list = to_list at-directory in
-    let at-scalars = to_scalars at-list in
-    let at_slots = to_slots at-scalars in
-    let at_turn = to_turn at_slots in
-    let at = to_loop at_turn in
-    playing_step at.loop.inv (omega arith) (record { slots = at_slots.slots.given; scalars = at-scalars.scalars.given; list = at-list.list.given; directory = at-directory.directory.given; cells = at_cells.cells.given; marks = at-marks.marks.given; order = at-order.order.given; table = at_table.table.given; roots = at-roots.roots.given; words = at_words.words.given; bytes = at-bytes.bytes.given; places = at_places.places.given; out = at_out.out.given }) at_turn.turn.ensures
-
-same-length-14 : tie.Need-same-length-14 invariant_loop decreases_loop
-same-length-14 c = let at : tie.At-loop invariant_loop decreases_loop = search in at.loop.inv.kept.slots
-
-same-length-15 : tie.Need-same-length-15 invariant_loop decreases_loop
-same-length-15 c = let at : tie.At-loop invariant_loop decreases_loop = search in at.loop.inv.kept.scalars
-
-same-length-16 : tie.Need-same-length-16 invariant_loop decreases_loop
-same-length-16 c = let at : tie.At-loop invariant_loop decreases_loop = search in at.loop.inv.kept.list
-
-same-length-17 : tie.Need-same-length-17 invariant_loop decreases_loop
-same-length-17 c = let at : tie.At-loop invariant_loop decreases_loop = search in at.loop.inv.kept.directory
-
-same-length-18 : tie.Need-same-length-18 invariant_loop decreases_loop
-same-length-18 c = let at : tie.At-loop invariant_loop decreases_loop = search in at.loop.inv.kept.cells
-
-same-length-19 : tie.Need-same-length-19 invariant_loop decreases_loop
-same-length-19 c = let at : tie.At-loop invariant_loop decreases_loop = search in at.loop.inv.kept.marks
-
-same-length-20 : tie.Need-same-length-20 invariant_loop decreases_loop
-same-length-20 c = let at : tie.At-loop invariant_loop decreases_loop = search in at.loop.inv.kept.order
-
-same-length-21 : tie.Need-same-length-21 invariant_loop decreases_loop
-same-length-21 c = let at : tie.At-loop invariant_loop decreases_loop = search in at.loop.inv.kept.table
-
-same-length-22 : tie.Need-same-length-22 invariant_loop decreases_loop
-same-length-22 c = let at : tie.At-loop invariant_loop decreases_loop = search in at.loop.inv.kept.roots
-
-same-length-23 : tie.Need-same-length-23 invariant_loop decreases_loop
-same-length-23 c = let at : tie.At-loop invariant_loop decreases_loop = search in at.loop.inv.kept.words
-
-same-length-24 : tie.Need-same-length-24 invariant_loop decreases_loop
-same-length-24 c = let at : tie.At-loop invariant_loop decreases_loop = search in at.loop.inv.kept.bytes
-
-same-length-25 : tie.Need-same-length-25 invariant_loop decreases_loop
-same-length-25 c = let at : tie.At-loop invariant_loop decreases_loop = search in at.loop.inv.kept.places
-
-same-length-26 : tie.Need-same-length-26 invariant_loop decreases_loop
-same-length-26 c = let at : tie.At-loop invariant_loop decreases_loop = search in at.loop.inv.kept.out
-
-returns-2 : tie.Need-returns-2 invariant_loop decreases_loop
-returns-2 c =
-    let at : tie.At-loop invariant_loop decreases_loop = search in
-    let at_moved = to_moved at in
-    plays_all at.loop.inv at_moved.moved.ensures (omega arith)
+    plays_all c.loop-q.invariant c.moved-q.ensures (omega arith)
 
 pub run_spec : {M : Type 1} → statement M
 run_spec =
@@ -220,37 +127,37 @@ run_spec =
     (tie.spec
     invariant_loop
     decreases_loop
-    moved-requires
-    loop-holds
-    sub-if2
-    same_length
-    same-length-2
-    same-length-3
-    same-length-4
-    same-length-5
-    same-length-6
-    same-length-7
-    same-length-8
-    same-length-9
-    same-length-10
-    same-length-11
-    same-length-12
-    same-length-13
-    returns
-    turn-requires
-    loop-less
-    loop-again
-    same-length-14
-    same-length-15
-    same-length-16
-    same-length-17
-    same-length-18
-    same-length-19
-    same-length-20
-    same-length-21
-    same-length-22
-    same-length-23
-    same-length-24
-    same-length-25
-    same-length-26
-    returns-2)
+    moved-q-requires
+    loop-q-init
+    overflow_sub-out
+    shape_of-slots-then-out-q-lt-LINE
+    shape_of-scalars-then-out-q-lt-LINE
+    shape_of-list-then-out-q-lt-LINE
+    shape_of-directory-then-out-q-lt-LINE
+    shape_of-cells-then-out-q-lt-LINE
+    shape_of-marks-then-out-q-lt-LINE
+    shape_of-order-then-out-q-lt-LINE
+    shape_of-table-then-out-q-lt-LINE
+    shape_of-roots-then-out-q-lt-LINE
+    shape_of-words-then-out-q-lt-LINE
+    shape_of-bytes-then-out-q-lt-LINE
+    shape_of-places-then-out-q-lt-LINE
+    shape_of-out-then-out-q-lt-LINE
+    returns-then-out-q-lt-LINE
+    turn-q-requires
+    loop-q-smaller
+    loop-q-preserved
+    shape_of-slots
+    shape_of-scalars
+    shape_of-list
+    shape_of-directory
+    shape_of-cells
+    shape_of-marks
+    shape_of-order
+    shape_of-table
+    shape_of-roots
+    shape_of-words
+    shape_of-bytes
+    shape_of-places
+    shape_of-out
+    returns)

@@ -6,46 +6,46 @@ use borrow.Author.Rules.{rules}
 use Rattle.script.proofs.script_room.Statement.{statement}
 use Rattle.script.proofs.script_room.Tie as tie
 
+returns-then-roots-lt-ROOTS : tie.Need-returns-then-roots-lt-ROOTS
+unfolding script_room
+returns-then-roots-lt-ROOTS c = rw (leb_no 64 c.args.roots (omega arith))
+
+returns-then-words-lt64 : tie.Need-returns-then-words-lt64
+unfolding script_room
+returns-then-words-lt64 c = rw (leb_yes 64 c.args.roots (omega arith), leb_no 64 c.args.words (omega arith))
+
+words_for-requires : tie.Need-words_for-requires
+words_for-requires c κs = search rules
+
+returns-then-words-words_for : tie.Need-returns-then-words-words_for
+unfolding script_room
+returns-then-words-words_for c = rw (leb_yes 64 c.args.roots (omega arith), leb_yes 64 c.args.words (omega arith), leb_no c.args.input (8 * c.args.words) (omega arith))
+
+returns-then-bytes-lt524288 : tie.Need-returns-then-bytes-lt524288
+unfolding script_room
+returns-then-bytes-lt524288 c = rw (leb_yes 64 c.args.roots (omega arith), leb_yes 64 c.args.words (omega arith), leb_yes c.args.input (8 * c.args.words) (omega arith), leb_no 524288 c.args.bytes (omega arith))
+
+returns-then-bytes-input : tie.Need-returns-then-bytes-input
+unfolding script_room
+returns-then-bytes-input c = rw (leb_yes 64 c.args.roots (omega arith), leb_yes 64 c.args.words (omega arith), leb_yes c.args.input (8 * c.args.words) (omega arith), leb_yes 524288 c.args.bytes (omega arith), leb_no c.args.input c.args.bytes (omega arith))
+
+returns-then-places-lt65536 : tie.Need-returns-then-places-lt65536
+unfolding script_room
+returns-then-places-lt65536 c = rw (leb_yes 64 c.args.roots (omega arith), leb_yes 64 c.args.words (omega arith), leb_yes c.args.input (8 * c.args.words) (omega arith), leb_yes 524288 c.args.bytes (omega arith), leb_yes c.args.input c.args.bytes (omega arith), leb_no 65536 c.args.places (omega arith))
+
 returns : tie.Need-returns
 unfolding script_room
-returns c = let start : tie.Start = search in rw (leb_no 64 start.args.roots (omega arith))
-
-returns-2 : tie.Need-returns-2
-unfolding script_room
-returns-2 c = let start : tie.Start = search in rw (leb_yes 64 start.args.roots (omega arith), leb_no 64 start.args.words (omega arith))
-
-words-for-requires : tie.Need-words-for-requires
-words-for-requires c κs = search rules
-
-returns-3 : tie.Need-returns-3
-unfolding script_room
-returns-3 c = let start : tie.Start = search in rw (leb_yes 64 start.args.roots (omega arith), leb_yes 64 start.args.words (omega arith), leb_no start.args.input (8 * start.args.words) (omega arith))
-
-returns-4 : tie.Need-returns-4
-unfolding script_room
-returns-4 c = let start : tie.Start = search in rw (leb_yes 64 start.args.roots (omega arith), leb_yes 64 start.args.words (omega arith), leb_yes start.args.input (8 * start.args.words) (omega arith), leb_no 524288 start.args.bytes (omega arith))
-
-returns-5 : tie.Need-returns-5
-unfolding script_room
-returns-5 c = let start : tie.Start = search in rw (leb_yes 64 start.args.roots (omega arith), leb_yes 64 start.args.words (omega arith), leb_yes start.args.input (8 * start.args.words) (omega arith), leb_yes 524288 start.args.bytes (omega arith), leb_no start.args.input start.args.bytes (omega arith))
-
-returns-6 : tie.Need-returns-6
-unfolding script_room
-returns-6 c = let start : tie.Start = search in rw (leb_yes 64 start.args.roots (omega arith), leb_yes 64 start.args.words (omega arith), leb_yes start.args.input (8 * start.args.words) (omega arith), leb_yes 524288 start.args.bytes (omega arith), leb_yes start.args.input start.args.bytes (omega arith), leb_no 65536 start.args.places (omega arith))
-
-returns-7 : tie.Need-returns-7
-unfolding script_room
-returns-7 c = let start : tie.Start = search in rw (leb_yes 64 start.args.roots (omega arith), leb_yes 64 start.args.words (omega arith), leb_yes start.args.input (8 * start.args.words) (omega arith), leb_yes 524288 start.args.bytes (omega arith), leb_yes start.args.input start.args.bytes (omega arith), leb_yes 65536 start.args.places (omega arith))
+returns c = rw (leb_yes 64 c.args.roots (omega arith), leb_yes 64 c.args.words (omega arith), leb_yes c.args.input (8 * c.args.words) (omega arith), leb_yes 524288 c.args.bytes (omega arith), leb_yes c.args.input c.args.bytes (omega arith), leb_yes 65536 c.args.places (omega arith))
 
 pub script_room_spec : {M : Type 1} → statement M
 script_room_spec =
     tie.close
     (tie.spec
-    returns
-    returns-2
-    words-for-requires
-    returns-3
-    returns-4
-    returns-5
-    returns-6
-    returns-7)
+    returns-then-roots-lt-ROOTS
+    returns-then-words-lt64
+    words_for-requires
+    returns-then-words-words_for
+    returns-then-bytes-lt524288
+    returns-then-bytes-input
+    returns-then-places-lt65536
+    returns)

@@ -1,57 +1,46 @@
 use borrow.Author.Tests.{not-false, not-true}
 use Rattle.script.proofs.OpeningLaws.{short-heap, short_script, true_roomy}
-use native.Mathlib.Omega.{arith}
 use borrow.Author.Rules.{rules}
 use Rattle.script.proofs.start.Statement.{statement}
 use Rattle.script.proofs.start.Tie as tie
 
-heap-room-requires : tie.Need-heap-room-requires
-heap-room-requires c κs = search rules
+heap_room-requires : tie.Need-heap_room-requires
+heap_room-requires c κs = search rules
+
+returns-then-not-heap_room : tie.Need-returns-then-not-heap_room
+returns-then-not-heap_room c = short-heap _ c.heap_room.ensures (not-true _ c.if-not-heap_room.true-raw)
+
+script_room-requires : tie.Need-script_room-requires
+script_room-requires c κs = search rules
+
+returns-then-not-script_room : tie.Need-returns-then-not-script_room
+returns-then-not-script_room c = short_script _ c.heap_room.ensures (not-false _ c.if-not-heap_room.false-raw) c.script_room.ensures (not-true _ c.if-not-script_room.true-raw)
+
+start_in-requires : tie.Need-start_in-requires
+start_in-requires c κs = true_roomy _ _ c.heap_room.ensures (not-false _ c.if-not-heap_room.false-raw) c.script_room.ensures (not-false _ c.if-not-script_room.false-raw)
+
+shape_of-marks : tie.Need-shape_of-marks
+shape_of-marks c = c.marks-1.given
+
+shape_of-order : tie.Need-shape_of-order
+shape_of-order c = c.order-1.given
+
+shape_of-table : tie.Need-shape_of-table
+shape_of-table c = c.table-1.given
 
 returns : tie.Need-returns
-returns c = let at-then : tie.Then1 = search in
-    let at-heap : tie.After-heap-room = search in
-    short-heap _ at-heap.heap-room.ensures (not-true _ at-then.if1.taken)
-
-script-room-requires : tie.Need-script-room-requires
-script-room-requires c κs = search rules
-
-returns-2 : tie.Need-returns-2
-returns-2 c = let at-then : tie.Then2 = search in
-    let at-script : tie.After-script-room = search in
-    let at-else : tie.Else1 = search in
-    let at-heap : tie.After-heap-room = search in
-    short_script _ at-heap.heap-room.ensures (not-false _ at-else.if1.left) at-script.script-room.ensures (not-true _ at-then.if2.taken)
-
-start-in-requires : tie.Need-start-in-requires
-start-in-requires c κs = let at-then : tie.Else2 = search in
-    let at-script : tie.After-script-room = search in
-    let at-else : tie.Else1 = search in
-    let at-heap : tie.After-heap-room = search in
-    true_roomy _ _ at-heap.heap-room.ensures (not-false _ at-else.if1.left) at-script.script-room.ensures (not-false _ at-then.if2.left)
-
-same_length : tie.Need-same-length
-same_length c = let at : tie.After-marks = search in at.marks.given
-
-same-length-2 : tie.Need-same-length-2
-same-length-2 c = let at : tie.After-order = search in at.order.given
-
-same-length-3 : tie.Need-same-length-3
-same-length-3 c = let at : tie.After-table = search in at.table.given
-
-returns-3 : tie.Need-returns-3
-returns-3 c = let at : tie.After-start-in = search in at.start-in.ensures
+returns c = c.start_in.ensures
 
 pub start_spec : {M : Type 1} → statement M
 start_spec =
     tie.close
     (tie.spec
-    heap-room-requires
-    returns
-    script-room-requires
-    returns-2
-    start-in-requires
-    same_length
-    same-length-2
-    same-length-3
-    returns-3)
+    heap_room-requires
+    returns-then-not-heap_room
+    script_room-requires
+    returns-then-not-script_room
+    start_in-requires
+    shape_of-marks
+    shape_of-order
+    shape_of-table
+    returns)

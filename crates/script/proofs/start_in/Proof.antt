@@ -6,86 +6,63 @@ use borrow.Author.Rules.{rules}
 use Rattle.script.proofs.start_in.Statement.{statement}
 use Rattle.script.proofs.start_in.Tie as tie
 
-abbrev from_start : tie.After-first-byte → tie.Start
-from_start c =
-    let at_mid : tie.After-slice-known3 = search in
-    search
+first_byte-n-requires : tie.Need-first_byte-n-requires
+first_byte-n-requires c κs = search rules
 
-first-byte-requires : tie.Need-first-byte-requires
-first-byte-requires c κs = search rules
+slice_bounds-open-end : tie.Need-slice_bounds-open-end
+slice_bounds-open-end c = sym (length-take-le c.first_byte-n.result c.args.input.now (omega (arith, c.first_byte-n.ensures)))
 
-slice-aggregate-open : tie.Need-slice-aggregate-open
-slice-aggregate-open c = let at_n : tie.After-first-byte = search in
-    let start = from_start at_n in
-    sym (length-take-le at_n.first_byte.result start.args.input.now (omega (arith, at_n.first_byte.ensures)))
-
-slice-aggregate-open-2 : tie.Need-slice-aggregate-open-2
-slice-aggregate-open-2 c = let at_n : tie.After-first-byte = search in
-    let start = from_start at_n in
-    sym (length-take-le 2048 start.args.cells.now (omega (arith, start.pre.cells)))
+slice_bounds-open-end-2 : tie.Need-slice_bounds-open-end-2
+slice_bounds-open-end-2 c = sym (length-take-le 2048 c.args.cells.now (omega (arith, c.requires.cells)))
 
 open-requires : tie.Need-open-requires
 open-requires c κs = search rules
 
-enum-known-q : tie.Need-enum-known-q
-enum-known-q c = search rules
+enum_known-q : tie.Need-enum_known-q
+enum_known-q c = search rules
 
-enum-known-h : tie.Need-enum-known-h
-enum-known-h c = search rules
+enum_known-h : tie.Need-enum_known-h
+enum_known-h c = search rules
 
-same_length : tie.Need-same-length
-same_length c = let at : tie.After-marks = search in at.marks.given
+shape_of-marks-in-Refused : tie.Need-shape_of-marks-in-Refused
+shape_of-marks-in-Refused c = c.marks-1.given
 
-same-length-2 : tie.Need-same-length-2
-same-length-2 c = let at : tie.After-order = search in at.order.given
+shape_of-order-in-Refused : tie.Need-shape_of-order-in-Refused
+shape_of-order-in-Refused c = c.order-1.given
 
-same-length-3 : tie.Need-same-length-3
-same-length-3 c = let at : tie.After-table = search in at.table.given
+shape_of-table-in-Refused : tie.Need-shape_of-table-in-Refused
+shape_of-table-in-Refused c = c.table-1.given
 
-returns : tie.Need-returns
-returns c = let at-q : tie.After-q = search in
-    let at-order : tie.After-order = search in
-    let at-marks : tie.After-marks = search in
-    let at_table : tie.After-table = search in
-    let at_open : tie.After-open = search in
-    let at_n : tie.After-first-byte = search in
-    let start = from_start at_n in
-    starts-refused start.pre at_n.first_byte.ensures at_open.«open».ensures at-q.q.given.1 at_table.table.given at-marks.marks.given at-order.order.given
+returns-in-Refused : tie.Need-returns-in-Refused
+returns-in-Refused c = starts-refused c.requires c.first_byte-n.ensures c.«open».ensures c.in-Refused.is c.table-1.given c.marks-1.given c.order-1.given
 
-same-length-4 : tie.Need-same-length-4
-same-length-4 c = let at : tie.After-marks = search in at.marks.given
+shape_of-marks-in-Ready : tie.Need-shape_of-marks-in-Ready
+shape_of-marks-in-Ready c = c.marks-1.given
 
-same-length-5 : tie.Need-same-length-5
-same-length-5 c = let at : tie.After-order = search in at.order.given
+shape_of-order-in-Ready : tie.Need-shape_of-order-in-Ready
+shape_of-order-in-Ready c = c.order-1.given
 
-same-length-6 : tie.Need-same-length-6
-same-length-6 c = let at : tie.After-table = search in at.table.given
+shape_of-table-in-Ready : tie.Need-shape_of-table-in-Ready
+shape_of-table-in-Ready c = c.table-1.given
 
-returns-2 : tie.Need-returns-2
-returns-2 c = let at-h : tie.After-h = search in
-    let at-order : tie.After-order = search in
-    let at-marks : tie.After-marks = search in
-    let at_table : tie.After-table = search in
-    let at_open : tie.After-open = search in
-    let at_n : tie.After-first-byte = search in
-    let start = from_start at_n in
-    starts_open start.pre at_n.first_byte.ensures at_open.«open».ensures _ at-h.h.given.1 at_table.table.given at-marks.marks.given at-order.order.given
+returns-in-Ready : tie.Need-returns-in-Ready
+returns-in-Ready c = starts_open c.requires c.first_byte-n.ensures c.«open».ensures _ c.in-Ready.is c.table-1.given c.marks-1.given c.order-1.given
 
 pub start_in_spec : {M : Type 1} → statement M
 start_in_spec =
     tie.close
     (tie.spec
-    first-byte-requires
-    slice-aggregate-open
-    slice-aggregate-open-2
+    first_byte-n-requires
+    slice_bounds-open-end
+    slice_bounds-open-end-2
     open-requires
-    enum-known-q
-    enum-known-h
-    same_length
-    same-length-2
-    same-length-3
-    returns
-    same-length-4
-    same-length-5
-    same-length-6
-    returns-2)
+    enum_known-q
+    enum_known-h
+    shape_of-marks-in-Refused
+    shape_of-order-in-Refused
+    shape_of-table-in-Refused
+    returns-in-Refused
+    shape_of-marks-in-Ready
+    shape_of-order-in-Ready
+    shape_of-table-in-Ready
+    returns-in-Ready)

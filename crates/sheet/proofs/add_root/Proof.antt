@@ -3,24 +3,31 @@ use borrow.Author.Rules.{rules}
 use Rattle.sheet.proofs.add_root.Statement.{statement}
 use Rattle.sheet.proofs.add_root.Tie as tie
 
-mul-roots : tie.Need-overflow-mul-roots
-mul-roots c = search rules
+offset_bounds-roots-count : tie.Need-offset_bounds-roots-count
+offset_bounds-roots-count c = search rules
 
-slice-write-roots : tie.Need-slice-write-roots
-slice-write-roots c = search rules
+bounds-roots-count : tie.Need-bounds-roots-count
+bounds-roots-count c = search rules
 
-add-result : tie.Need-overflow-add-result
-add-result c = search rules
+overflow_add-result : tie.Need-overflow_add-result
+overflow_add-result c = search rules
 
-same_length : tie.Need-same-length
-same_length c = search rules
+shape_of-roots-then-count-lt64 : tie.Need-shape_of-roots-then-count-lt64
+shape_of-roots-then-count-lt64 c = search rules
+
+returns-then-count-lt64 : tie.Need-returns-then-count-lt64
+returns-then-count-lt64 c = root-added c.args.roots.now c.args.count c.args.w c.if-count-lt64.true c.requires.0
 
 returns : tie.Need-returns
-returns c = root-added (c.before.args.roots.now) (c.before.args.count) (c.before.args.w) (c.if1.true) (c.before.requires.0)
-
-returns-2 : tie.Need-returns-2
-returns-2 c = root-full (c.before.args.roots.now) (c.before.args.count) (c.before.args.w) (c.if1.false) (c.before.requires.1)
+returns c = root-full c.args.roots.now c.args.count c.args.w c.if-count-lt64.false c.requires.1
 
 pub add_root_spec : {M : Type 1} → statement M
 add_root_spec =
-    tie.close (tie.spec mul-roots slice-write-roots add-result same_length returns returns-2)
+    tie.close
+    (tie.spec
+    offset_bounds-roots-count
+    bounds-roots-count
+    overflow_add-result
+    shape_of-roots-then-count-lt64
+    returns-then-count-lt64
+    returns)

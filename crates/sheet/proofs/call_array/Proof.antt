@@ -10,49 +10,50 @@ use Rattle.model.specs.Callsheet.{little_endian}
 use Rattle.sheet.proofs.ShownLaws.{shows-made, signed_same}
 use borrow.Author.Rules.{rules}
 use Rattle.sheet.proofs.call_array.Statement.{statement}
+use mir.Syntax.{w64}
 use Rattle.sheet.proofs.call_array.Tie as tie
 
-read-little-requires : tie.Need-read-little-requires
-read-little-requires c κs = search rules
+read_little-requires : tie.Need-read_little-requires
+read_little-requires c κs = search rules
 
-signed-of-requires : tie.Need-signed-of-requires
-signed-of-requires c κs = search rules
+signed_of-n-requires : tie.Need-signed_of-n-requires
+signed_of-n-requires c κs = search rules
 
-shared-slice-read-t : tie.Need-shared-slice-read-t
-shared-slice-read-t c = search rules
+bounds-operands-0 : tie.Need-bounds-operands-0
+bounds-operands-0 c = search rules
 
-cast_t : tie.Need-overflow-cast-t
-cast_t c = omega (arith, c.shared-slice-known4.given 0)
+overflow_cast-t : tie.Need-overflow_cast-t
+overflow_cast-t c = omega (arith, c.shared_slice_known-4-1.given 0)
 
-new-array-requires : tie.Need-new-array-requires
-new-array-requires c κs = search rules
+new_array-m-requires : tie.Need-new_array-m-requires
+new_array-m-requires c κs = search rules
 
 show-requires : tie.Need-show-requires
 show-requires c κs = search rules
 
-same_length : tie.Need-same-length
-same_length c = search rules
+shape_of-slots : tie.Need-shape_of-slots
+shape_of-slots c = search rules
 
-same-length-2 : tie.Need-same-length-2
-same-length-2 c = search rules
+shape_of-directory : tie.Need-shape_of-directory
+shape_of-directory c = search rules
 
-same-length-3 : tie.Need-same-length-3
-same-length-3 c = search rules
+shape_of-cells : tie.Need-shape_of-cells
+shape_of-cells c = search rules
 
 returns : tie.Need-returns
-returns c = shows-made (new_array (get_or (c.before.before.before.before.before.before.before.before.before.before.before.before.before.before.before.before.before.before.before.before.before.args.operands.now) 0 0) (signed64 (little_endian (take 8 (drop 1 (c.before.before.before.before.before.before.before.before.before.before.before.before.before.before.before.before.before.before.before.before.before.args.operands.now)))))) (c.before.before.before.before.before.before.before.before.new_array.result.answer) (ap (λ (z : ℤ). new_array (get_or (c.before.before.before.before.before.before.before.before.before.before.before.before.before.before.before.before.before.before.before.before.before.args.operands.now) 0 0) z) (to_z-of_z (record { sfits = c.before.before.before.before.before.before.before.before.before.before.before.before.before.Signed-of.type-inv }) ∙ c.before.before.before.before.before.before.before.before.before.before.before.before.before.Signed-of.ensures ∙ signed_same (c.before.before.before.before.before.before.before.before.before.before.before.before.before.before.read-little.result) ∙ ap (λ (w : ℕ). signed64 w) (c.before.before.before.before.before.before.before.before.before.before.before.before.before.before.read-little.ensures.is))) (c.before.before.before.before.before.before.before.before.new_array.ensures) (c.show.ensures)
+returns c = shows-made (new_array (get_or c.args.operands.now 0 0) (signed64 (little_endian (take 8 (drop 1 c.args.operands.now))))) c.new_array-m.result.answer (ap (λ (z : ℤ). new_array (get_or c.args.operands.now 0 0) z) (to_z-of_z {w = w64} (record { sfits = c.signed_of-n.type_inv }) ∙ c.signed_of-n.ensures ∙ signed_same c.read_little.result ∙ ap (λ (w : ℕ). signed64 w) c.read_little.ensures.is)) c.new_array-m.ensures c.show.ensures
 
 pub call_array_spec : {M : Type 1} → statement M
 call_array_spec =
     tie.close
     (tie.spec
-    read-little-requires
-    signed-of-requires
-    shared-slice-read-t
-    cast_t
-    new-array-requires
+    read_little-requires
+    signed_of-n-requires
+    bounds-operands-0
+    overflow_cast-t
+    new_array-m-requires
     show-requires
-    same_length
-    same-length-2
-    same-length-3
+    shape_of-slots
+    shape_of-directory
+    shape_of-cells
     returns)

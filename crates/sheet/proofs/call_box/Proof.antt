@@ -8,21 +8,27 @@ use borrow.Author.Rules.{rules}
 use Rattle.sheet.proofs.call_box.Statement.{statement}
 use Rattle.sheet.proofs.call_box.Tie as tie
 
-read-little-requires : tie.Need-read-little-requires
-read-little-requires c κs = search rules
+read_little-w-requires : tie.Need-read_little-w-requires
+read_little-w-requires c κs = search rules
 
-new-box-requires : tie.Need-new-box-requires
-new-box-requires c κs = search rules
+new_box-m-requires : tie.Need-new_box-m-requires
+new_box-m-requires c κs = search rules
 
 show-requires : tie.Need-show-requires
 show-requires c κs = search rules
 
-same_length : tie.Need-same-length
-same_length c = search rules
+shape_of-slots : tie.Need-shape_of-slots
+shape_of-slots c = search rules
 
 returns : tie.Need-returns
-returns c = shows-made (new_box (little_endian (take 8 (c.before.before.before.before.before.before.before.before.before.before.before.before.before.args.operands.now)))) (c.before.before.before.before.new_box.result.answer) (ap (λ (w : ℕ). new_box w) (c.before.before.before.before.before.before.read-little.ensures.is)) (c.before.before.before.before.new_box.ensures) (c.show.ensures)
+returns c = shows-made (new_box (little_endian (take 8 c.args.operands.now))) c.new_box-m.result.answer (ap (λ (w : ℕ). new_box w) c.read_little-w.ensures.is) c.new_box-m.ensures c.show.ensures
 
 pub call_box_spec : {M : Type 1} → statement M
 call_box_spec =
-    tie.close (tie.spec read-little-requires new-box-requires show-requires same_length returns)
+    tie.close
+    (tie.spec
+    read_little-w-requires
+    new_box-m-requires
+    show-requires
+    shape_of-slots
+    returns)

@@ -2,62 +2,58 @@ use Rattle.sheet.proofs.ShownLaws.{shows-does}
 use borrow.Author.Rules.{rules}
 use Rattle.sheet.proofs.call_collect.Statement.{statement}
 use Rattle.sheet.proofs.call_collect.Tie as tie
-use Rattle.sheet.proofs.call_collect.Reads as reads
-use Rattle.sheet.proofs.call_collect.Lts as lts
-use Rattle.collector.proofs.collect.Reads as collect-reads
-use Rattle.sheet.proofs.show_collected.Reads as show-collected-reads
 
 -- src/lib.rt:262:9
-array-borrow-prefix-places : tie.Need-array-borrow-prefix-places
-array-borrow-prefix-places c = search rules
+slice_bounds-places-end : tie.Need-slice_bounds-places-end
+slice_bounds-places-end c = search rules
 
 -- src/lib.rt:262:9
-slice-aggregate-collect : tie.Need-slice-aggregate-collect
-slice-aggregate-collect c = search rules
+slice_bounds-collect-end : tie.Need-slice_bounds-collect-end
+slice_bounds-collect-end c = search rules
 
 -- src/lib.rt:250:9
-collect-requires : tie.Need-collect-requires
-collect-requires c κs = (c.before.before.before.before.before.before.before.before.before.before.before.before.before.before.before.before.requires.good, (c.before.before.before.before.before.before.before.before.before.before.before.before.before.before.before.before.requires.tabled, c.before.before.before.before.before.before.before.before.before.before.before.before.before.before.before.before.requires.rested))
+collect-c-requires : tie.Need-collect-c-requires
+collect-c-requires c κs = (c.requires.good, (c.requires.tabled, c.requires.rested))
 
 -- src/lib.rt:266:5
-show-collected-requires : tie.Need-show-collected-requires
-show-collected-requires c κs = search rules
+show_collected-requires : tie.Need-show_collected-requires
+show_collected-requires c κs = search rules
 
 -- src/lib.rt:231:1
-same_length : tie.Need-same-length
-same_length c = search rules
+shape_of-slots : tie.Need-shape_of-slots
+shape_of-slots c = search rules
 
 -- src/lib.rt:231:1
-same-length-2 : tie.Need-same-length-2
-same-length-2 c = search rules
+shape_of-scalars : tie.Need-shape_of-scalars
+shape_of-scalars c = search rules
 
 -- src/lib.rt:231:1
-same-length-3 : tie.Need-same-length-3
-same-length-3 c = search rules
+shape_of-list : tie.Need-shape_of-list
+shape_of-list c = search rules
 
 -- src/lib.rt:231:1
-same-length-4 : tie.Need-same-length-4
-same-length-4 c = search rules
+shape_of-marks : tie.Need-shape_of-marks
+shape_of-marks c = search rules
 
 -- src/lib.rt:231:1
-same-length-5 : tie.Need-same-length-5
-same-length-5 c = search rules
+shape_of-order : tie.Need-shape_of-order
+shape_of-order c = search rules
 
 -- src/lib.rt:231:1
 returns : tie.Need-returns
-returns c = (shows-does (c.before.before.before.before.before.before.before.before.before.before.before.before.before.collect.ensures.0) (c.show-collected.ensures _), (c.before.before.before.before.before.before.before.before.before.before.before.before.before.collect.ensures.1.0, c.before.before.before.before.before.before.before.before.before.before.before.before.before.collect.ensures.1.1))
+returns c = (shows-does c.collect-c.ensures.0 (c.show_collected.ensures _), (c.collect-c.ensures.1.0, c.collect-c.ensures.1.1))
 
 pub call_collect_spec : {M : Type 1} → statement M
 call_collect_spec =
     tie.close
     (tie.spec
-    array-borrow-prefix-places
-    slice-aggregate-collect
-    collect-requires
-    show-collected-requires
-    same_length
-    same-length-2
-    same-length-3
-    same-length-4
-    same-length-5
+    slice_bounds-places-end
+    slice_bounds-collect-end
+    collect-c-requires
+    show_collected-requires
+    shape_of-slots
+    shape_of-scalars
+    shape_of-list
+    shape_of-marks
+    shape_of-order
     returns)

@@ -8,17 +8,23 @@ use borrow.Author.Rules.{rules}
 use Rattle.sheet.proofs.call_read.Statement.{statement}
 use Rattle.sheet.proofs.call_read.Tie as tie
 
-read-little-requires : tie.Need-read-little-requires
-read-little-requires c κs = search rules
+read_little-w-requires : tie.Need-read_little-w-requires
+read_little-w-requires c κs = search rules
 
-read-box-requires : tie.Need-read-box-requires
-read-box-requires c κs = search rules
+read_box-a-requires : tie.Need-read_box-a-requires
+read_box-a-requires c κs = search rules
 
 show-requires : tie.Need-show-requires
 show-requires c κs = search rules
 
 returns : tie.Need-returns
-returns c = shows_read (read_box (little_endian (take 8 (c.before.before.before.before.before.before.before.before.before.args.operands.now)))) (c.before.read_box.result) (ap (λ (w : ℕ). read_box w) (c.before.before.read-little.ensures.is)) (c.before.read_box.ensures) (c.show.ensures)
+returns c = shows_read (read_box (little_endian (take 8 c.args.operands.now))) c.read_box-a.result (ap (λ (w : ℕ). read_box w) c.read_little-w.ensures.is) c.read_box-a.ensures c.show.ensures
 
 pub call_read_spec : {M : Type 1} → statement M
-call_read_spec = tie.close (tie.spec read-little-requires read-box-requires show-requires returns)
+call_read_spec =
+    tie.close
+    (tie.spec
+    read_little-w-requires
+    read_box-a-requires
+    show-requires
+    returns)

@@ -5,51 +5,51 @@ use borrow.Author.Rules.{rules}
 use Rattle.sheet.proofs.call_turn.Statement.{statement}
 use Rattle.sheet.proofs.call_turn.Tie as tie
 
-call-requires : tie.Need-call-requires
-call-requires c κs = search rules
+call-s-requires : tie.Need-call-s-requires
+call-s-requires c κs = search rules
 
-put-line-requires : tie.Need-put-line-requires
-put-line-requires c κs = omega (arith, c.before.before.before.before.before.before.before.before.before.before.before.before.before.before.before.before.before.before.before.before.before.before.before.before.before.before.before.before.before.before.before.before.before.before.before.before.before.requires.1.1.1)
+put_line-e-requires : tie.Need-put_line-e-requires
+put_line-e-requires c κs = omega (arith, c.requires.1.1.1)
 
-same_length : tie.Need-same-length
-same_length c = search rules
+shape_of-slots : tie.Need-shape_of-slots
+shape_of-slots c = search rules
 
-same-length-2 : tie.Need-same-length-2
-same-length-2 c = search rules
+shape_of-scalars : tie.Need-shape_of-scalars
+shape_of-scalars c = search rules
 
-same-length-3 : tie.Need-same-length-3
-same-length-3 c = search rules
+shape_of-list : tie.Need-shape_of-list
+shape_of-list c = search rules
 
-same-length-4 : tie.Need-same-length-4
-same-length-4 c = search rules
+shape_of-directory : tie.Need-shape_of-directory
+shape_of-directory c = search rules
 
-same-length-5 : tie.Need-same-length-5
-same-length-5 c = search rules
+shape_of-cells : tie.Need-shape_of-cells
+shape_of-cells c = search rules
 
-same-length-6 : tie.Need-same-length-6
-same-length-6 c = search rules
+shape_of-marks : tie.Need-shape_of-marks
+shape_of-marks c = search rules
 
-same-length-7 : tie.Need-same-length-7
-same-length-7 c = search rules
+shape_of-order : tie.Need-shape_of-order
+shape_of-order c = search rules
 
-same-length-8 : tie.Need-same-length-8
-same-length-8 c = search rules
+shape_of-out : tie.Need-shape_of-out
+shape_of-out c = search rules
 
 returns : tie.Need-returns
-returns c = (commands_call _ (c.before.before.before.before.before.before.before.before.before.before.before.before.before.before.before.before.before.before.before.before.before.before.before.before.before.before.before.before.before.before.before.before.before.before.before.before.before.before.before.before.requires.1.1.0) (c.before.before.before.before.before.before.before.before.before.before.before.before.before.before.before.before.before.before.before.before.call.ensures.0) (c.before.before.put-line.ensures), ready-after (c.before.before.before.before.before.before.before.before.before.before.before.before.before.before.before.before.before.before.before.before.before.before.before.before.before.before.before.before.before.before.before.before.before.before.before.before.before.before.before.before.requires.0) (c.before.before.before.before.before.before.before.before.before.before.before.before.before.before.before.before.before.before.before.before.call.ensures.0) (c.before.before.before.before.before.before.before.before.before.before.before.before.before.before.before.before.before.before.before.before.call.ensures.1.0) (c.before.before.before.before.before.before.before.before.before.before.before.before.before.before.before.before.before.before.before.before.call.ensures.1.1))
+returns c = (commands_call _ c.requires.1.1.0 c.call-s.ensures.0 c.put_line-e.ensures, ready-after c.requires.0 c.call-s.ensures.0 c.call-s.ensures.1.0 c.call-s.ensures.1.1)
 
 pub call_turn_spec : {M : Type 1} → statement M
 call_turn_spec =
     tie.close
     (tie.spec
-    call-requires
-    put-line-requires
-    same_length
-    same-length-2
-    same-length-3
-    same-length-4
-    same-length-5
-    same-length-6
-    same-length-7
-    same-length-8
+    call-s-requires
+    put_line-e-requires
+    shape_of-slots
+    shape_of-scalars
+    shape_of-list
+    shape_of-directory
+    shape_of-cells
+    shape_of-marks
+    shape_of-order
+    shape_of-out
     returns)

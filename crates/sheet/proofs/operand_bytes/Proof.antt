@@ -5,29 +5,37 @@ use Rattle.sheet.proofs.OperandLaws.{operands-unknown}
 use Rattle.sheet.proofs.operand_bytes.Statement.{statement}
 use Rattle.sheet.proofs.operand_bytes.Tie as tie
 
-returns : tie.Need-returns
+returns-in-1 : tie.Need-returns-in-1
 unfolding operands_is operand_bytes
-returns c = rw c.match.keys1
+returns-in-1 c = rw c.in-1.is
 
-returns-2 : tie.Need-returns-2
+returns-in-2 : tie.Need-returns-in-2
 unfolding operands_is operand_bytes
-returns-2 c = rw c.match.keys2
+returns-in-2 c = rw c.in-2.is
 
-returns-3 : tie.Need-returns-3
+returns-in-6 : tie.Need-returns-in-6
 unfolding operands_is operand_bytes
-returns-3 c = rw c.match.keys3
+returns-in-6 c = rw c.in-6.is
 
-returns-4 : tie.Need-returns-4
+returns-in-11 : tie.Need-returns-in-11
 unfolding operands_is operand_bytes
-returns-4 c = rw c.match.keys4
+returns-in-11 c = rw c.in-11.is
 
-returns-5 : tie.Need-returns-5
+returns-in-12 : tie.Need-returns-in-12
 unfolding operands_is operand_bytes
-returns-5 c = rw c.match.keys5
+returns-in-12 c = rw c.in-12.is
 
-returns-6 : tie.Need-returns-6
+returns-in_default : tie.Need-returns-in_default
 unfolding operands_is
-returns-6 c = sym (operands-unknown c.before.args.command c.match.rest.0.0.0.0.1 c.match.rest.0.0.0.1 c.match.rest.0.0.1 c.match.rest.0.1 c.match.rest.1)
+returns-in_default c = sym (operands-unknown c.args.command c.in_default.in_default-own.rest.0.0.0.0.1 c.in_default.in_default-own.rest.0.0.0.1 c.in_default.in_default-own.rest.0.0.1 c.in_default.in_default-own.rest.0.1 c.in_default.in_default-own.rest.1)
 
 pub operand_bytes_spec : {M : Type 1} → statement M
-operand_bytes_spec = tie.close (tie.spec returns returns-2 returns-3 returns-4 returns-5 returns-6)
+operand_bytes_spec =
+    tie.close
+    (tie.spec
+    returns-in-1
+    returns-in-2
+    returns-in-6
+    returns-in-11
+    returns-in-12
+    returns-in_default)

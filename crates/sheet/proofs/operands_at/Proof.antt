@@ -6,39 +6,39 @@ use borrow.Author.Rules.{rules}
 use Rattle.sheet.proofs.operands_at.Statement.{statement}
 use Rattle.sheet.proofs.operands_at.Tie as tie
 
-shared-slice-read-operand-bytes : tie.Need-shared-slice-read-operand-bytes
-shared-slice-read-operand-bytes c = search rules
+bounds-input-at : tie.Need-bounds-input-at
+bounds-input-at c = search rules
 
-operand-bytes-requires : tie.Need-operand-bytes-requires
-operand-bytes-requires c κs = search rules
+operand_bytes-requires : tie.Need-operand_bytes-requires
+operand_bytes-requires c κs = search rules
 
-enum_told : tie.Need-enum-told
-enum_told c = search rules
+enum_told-1 : tie.Need-enum_told-1
+enum_told-1 c = search rules
 
-enum-known-n : tie.Need-enum-known-n
-enum-known-n c = search rules
+enum_known-n : tie.Need-enum_known-n
+enum_known-n c = search rules
 
-sub-if1 : tie.Need-overflow-sub-if1
-sub-if1 c = search rules
+overflow_sub-input : tie.Need-overflow_sub-input
+overflow_sub-input c = search rules
 
-returns : tie.Need-returns
-returns c = present-short (length (drop (c.before.before.before.before.before.before.before.args.at + 1) (c.before.before.before.before.before.before.before.args.input.now))) (get_or (c.before.before.before.before.before.before.before.args.input.now) (c.before.before.before.before.before.before.before.args.at) 0) _ (c.before.before.before.before.operand-bytes.ensures) (c.before.before.n.given).1 (omega (arith, length-drop (c.before.before.before.before.before.before.before.args.at + 1) (c.before.before.before.before.before.before.before.args.input.now)))
+returns-then-input-at : tie.Need-returns-then-input-at
+returns-then-input-at c = present-short (length (drop (c.args.at + 1) c.args.input.now)) (get_or c.args.input.now c.args.at 0) _ c.operand_bytes.ensures c.in-Bytes.is (omega (arith, length-drop (c.args.at + 1) c.args.input.now))
 
-returns-2 : tie.Need-returns-2
-returns-2 c = present-unknown (length (drop (c.before.before.before.before.before.args.at + 1) (c.before.before.before.before.before.args.input.now))) (get_or (c.before.before.before.before.before.args.input.now) (c.before.before.before.before.before.args.at) 0) (c.before.before.operand-bytes.ensures) (c.enum_told.given).1
+returns-in-Missing : tie.Need-returns-in-Missing
+returns-in-Missing c = present-unknown (length (drop (c.args.at + 1) c.args.input.now)) (get_or c.args.input.now c.args.at 0) c.operand_bytes.ensures c.in-Missing.is
 
-returns-3 : tie.Need-returns-3
-returns-3 c = present-whole (length (drop (c.before.before.before.before.before.before.before.args.at + 1) (c.before.before.before.before.before.before.before.args.input.now))) (get_or (c.before.before.before.before.before.before.before.args.input.now) (c.before.before.before.before.before.before.before.args.at) 0) _ (c.before.before.before.before.operand-bytes.ensures) (c.before.before.n.given).1 (omega (arith, length-drop (c.before.before.before.before.before.before.before.args.at + 1) (c.before.before.before.before.before.before.before.args.input.now)))
+returns-else-input-at : tie.Need-returns-else-input-at
+returns-else-input-at c = present-whole (length (drop (c.args.at + 1) c.args.input.now)) (get_or c.args.input.now c.args.at 0) _ c.operand_bytes.ensures c.in-Bytes.is (omega (arith, length-drop (c.args.at + 1) c.args.input.now))
 
 pub operands_at_spec : {M : Type 1} → statement M
 operands_at_spec =
     tie.close
     (tie.spec
-    shared-slice-read-operand-bytes
-    operand-bytes-requires
-    enum_told
-    enum-known-n
-    sub-if1
-    returns
-    returns-2
-    returns-3)
+    bounds-input-at
+    operand_bytes-requires
+    enum_told-1
+    enum_known-n
+    overflow_sub-input
+    returns-then-input-at
+    returns-in-Missing
+    returns-else-input-at)

@@ -5,51 +5,39 @@ use borrow.Author.Rules.{rules}
 use Rattle.sheet.proofs.run.Statement.{statement}
 use Rattle.sheet.proofs.run.Tie as tie
 
-first-bytes-requires : tie.Need-first-bytes-requires
-first-bytes-requires c κs = search rules
+first_bytes-n-requires : tie.Need-first_bytes-n-requires
+first_bytes-n-requires c κs = search rules
 
-mul-if1 : tie.Need-overflow-mul-if1
-mul-if1 c = search rules
+overflow_mul-n : tie.Need-overflow_mul-n
+overflow_mul-n c = search rules
+
+returns-then-out-n : tie.Need-returns-then-out-n
+returns-then-out-n c =
+    short-answers c.args.input.now c.first_bytes-n.result c.first_bytes-n.ensures c.if-out-n.true
+
+slice_bounds-run_new-end : tie.Need-slice_bounds-run_new-end
+slice_bounds-run_new-end c =
+    sym (length-take-le c.first_bytes-n.result c.args.input.now (first-within c.args.input.now c.first_bytes-n.result c.first_bytes-n.ensures))
+
+run_new-end-requires : tie.Need-run_new-end-requires
+run_new-end-requires c κs =
+    (first-room c.args.input.now c.first_bytes-n.result c.first_bytes-n.ensures _ c.if-out-n.false, first-few c.args.input.now c.first_bytes-n.result c.first_bytes-n.ensures)
+
+shape_of-out : tie.Need-shape_of-out
+shape_of-out c = search rules
 
 returns : tie.Need-returns
 returns c =
-    let at-then1 : tie.Then1 = search in
-    let at-first-bytes : tie.After-first-bytes = search in
-    let start : tie.Start = search in
-    short-answers start.args.input.now at-first-bytes.first-bytes.result at-first-bytes.first-bytes.ensures at-then1.if1.taken
-
-slice-aggregate-run-new : tie.Need-slice-aggregate-run-new
-slice-aggregate-run-new c =
-    let at-first-bytes : tie.After-first-bytes = search in
-    let start : tie.Start = search in
-    sym (length-take-le at-first-bytes.first-bytes.result start.args.input.now (first-within start.args.input.now at-first-bytes.first-bytes.result at-first-bytes.first-bytes.ensures))
-
-run-new-requires : tie.Need-run-new-requires
-run-new-requires c κs =
-    let at-else1 : tie.Else1 = search in
-    let at-first-bytes : tie.After-first-bytes = search in
-    let start : tie.Start = search in
-    (first-room start.args.input.now at-first-bytes.first-bytes.result at-first-bytes.first-bytes.ensures _ at-else1.if1.left, first-few start.args.input.now at-first-bytes.first-bytes.result at-first-bytes.first-bytes.ensures)
-
-same_length : tie.Need-same-length
-same_length c = search rules
-
-returns-2 : tie.Need-returns-2
-returns-2 c =
-    let at-run-new : tie.After-run-new = search in
-    let at-else1 : tie.Else1 = search in
-    let at-first-bytes : tie.After-first-bytes = search in
-    let start : tie.Start = search in
-    text-answers start.args.input.now at-first-bytes.first-bytes.result at-first-bytes.first-bytes.ensures at-run-new.run-new.result at-else1.if1.left at-run-new.run-new.ensures
+    text-answers c.args.input.now c.first_bytes-n.result c.first_bytes-n.ensures c.run_new-end.result c.if-out-n.false c.run_new-end.ensures
 
 pub run_spec : {M : Type 1} → statement M
 run_spec =
     tie.close
     (tie.spec
-    first-bytes-requires
-    mul-if1
-    returns
-    slice-aggregate-run-new
-    run-new-requires
-    same_length
-    returns-2)
+    first_bytes-n-requires
+    overflow_mul-n
+    returns-then-out-n
+    slice_bounds-run_new-end
+    run_new-end-requires
+    shape_of-out
+    returns)

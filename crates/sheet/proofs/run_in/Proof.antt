@@ -1,115 +1,115 @@
 use mathlib.Core.Path.{◌∙◌}
-use Rattle.sheet.proofs.OpeningLaws.{Buffers, never_refused, opened_prints, opened-ready}
+use Rattle.sheet.proofs.OpeningLaws.{never_refused, opened_prints, opened-ready}
 use native.Mathlib.Omega.{arith}
 use borrow.Author.Rules.{rules}
 use Rattle.sheet.proofs.run_in.Statement.{statement}
 use Rattle.sheet.proofs.run_in.Tie as tie
 
-slice-aggregate-open : tie.Need-slice-aggregate-open
-slice-aggregate-open c = search rules
+slice_bounds-open-end : tie.Need-slice_bounds-open-end
+slice_bounds-open-end c = search rules
 
 open-requires : tie.Need-open-requires
 open-requires c κs = search rules
 
-enum-known-q : tie.Need-enum-known-q
-enum-known-q c = search rules
+enum_known-q : tie.Need-enum_known-q
+enum_known-q c = search rules
 
-enum-known-h : tie.Need-enum-known-h
-enum-known-h c = search rules
+enum_known-h : tie.Need-enum_known-h
+enum_known-h c = search rules
 
-slice-aggregate-play : tie.Need-slice-aggregate-play
-slice-aggregate-play c = search rules
+slice_bounds-play-end : tie.Need-slice_bounds-play-end
+slice_bounds-play-end c = search rules
 
 play-requires : tie.Need-play-requires
-play-requires c κs = (opened-ready (record { slots = c.before.before.before.before.before.before.before.before.before.before.before.before.before.before.before.before.before.before.before.before.before.before.before.before.before.before.before.before.before.before.before.before.before.before.before.before.before.before.before.before.before.requires.0.0; scalars = c.before.before.before.before.before.before.before.before.before.before.before.before.before.before.before.before.before.before.before.before.before.before.before.before.before.before.before.before.before.before.before.before.before.before.before.before.before.before.before.before.before.requires.0.1; list = c.before.before.before.before.before.before.before.before.before.before.before.before.before.before.before.before.before.before.before.before.before.before.before.before.before.before.before.before.before.before.before.before.before.before.before.before.before.before.before.before.before.requires.0.2; directory = c.before.before.before.before.before.before.before.before.before.before.before.before.before.before.before.before.before.before.before.before.before.before.before.before.before.before.before.before.before.before.before.before.before.before.before.before.before.before.before.before.before.requires.0.3; cells = c.before.before.before.before.before.before.before.before.before.before.before.before.before.before.before.before.before.before.before.before.before.before.before.before.before.before.before.before.before.before.before.before.before.before.before.before.before.before.before.before.before.requires.0.4; marks = c.before.before.before.before.before.before.before.before.before.before.before.before.before.before.before.before.before.before.before.before.before.before.before.before.before.before.before.before.before.before.before.before.before.before.before.before.before.before.before.before.before.requires.1.0.0; order = c.before.before.before.before.before.before.before.before.before.before.before.before.before.before.before.before.before.before.before.before.before.before.before.before.before.before.before.before.before.before.before.before.before.before.before.before.before.before.before.before.before.requires.1.0.1; table = c.before.before.before.before.before.before.before.before.before.before.before.before.before.before.before.before.before.before.before.before.before.before.before.before.before.before.before.before.before.before.before.before.before.before.before.before.before.before.before.before.before.requires.1.0.2 }) (c.before.before.before.before.before.before.before.before.before.before.before.before.before.before.before.before.before.before.before.before.«open».ensures) _ (c.before.before.before.before.before.before.before.before.before.before.before.before.h.given).1, (omega (arith, c.before.before.before.before.before.before.before.before.before.before.before.before.before.before.before.before.before.before.before.before.before.before.before.before.before.before.before.before.before.before.before.before.before.before.before.before.before.before.before.before.before.requires.1.0.3), c.before.before.before.before.before.before.before.before.before.before.before.before.before.before.before.before.before.before.before.before.before.before.before.before.before.before.before.before.before.before.before.before.before.before.before.before.before.before.before.before.before.requires.1.1.0))
+play-requires c κs = (opened-ready (record { slots = c.requires.0.0; scalars = c.requires.0.1; list = c.requires.0.2; directory = c.requires.0.3; cells = c.requires.0.4; marks = c.requires.1.0.0; order = c.requires.1.0.1; table = c.requires.1.0.2 }) c.«open».ensures _ c.in-Ready.is, (omega (arith, c.requires.1.0.3), c.requires.1.1.0))
 
-same_length : tie.Need-same-length
-same_length c = search rules
+shape_of-slots-in-Refused : tie.Need-shape_of-slots-in-Refused
+shape_of-slots-in-Refused c = search rules
 
-same-length-2 : tie.Need-same-length-2
-same-length-2 c = search rules
+shape_of-scalars-in-Refused : tie.Need-shape_of-scalars-in-Refused
+shape_of-scalars-in-Refused c = search rules
 
-same-length-3 : tie.Need-same-length-3
-same-length-3 c = search rules
+shape_of-list-in-Refused : tie.Need-shape_of-list-in-Refused
+shape_of-list-in-Refused c = search rules
 
-same-length-4 : tie.Need-same-length-4
-same-length-4 c = search rules
+shape_of-directory-in-Refused : tie.Need-shape_of-directory-in-Refused
+shape_of-directory-in-Refused c = search rules
 
-same-length-5 : tie.Need-same-length-5
-same-length-5 c = search rules
+shape_of-cells-in-Refused : tie.Need-shape_of-cells-in-Refused
+shape_of-cells-in-Refused c = search rules
 
-same-length-6 : tie.Need-same-length-6
-same-length-6 c = search rules
+shape_of-marks-in-Refused : tie.Need-shape_of-marks-in-Refused
+shape_of-marks-in-Refused c = search rules
 
-same-length-7 : tie.Need-same-length-7
-same-length-7 c = search rules
+shape_of-order-in-Refused : tie.Need-shape_of-order-in-Refused
+shape_of-order-in-Refused c = search rules
 
-same-length-8 : tie.Need-same-length-8
-same-length-8 c = search rules
+shape_of-table-in-Refused : tie.Need-shape_of-table-in-Refused
+shape_of-table-in-Refused c = search rules
 
-returns : tie.Need-returns
-returns c = absurd (never_refused (record { slots = c.before.before.before.before.before.before.before.before.before.before.before.before.before.before.before.before.before.before.before.before.before.before.before.before.before.before.before.before.before.before.requires.0.0; scalars = c.before.before.before.before.before.before.before.before.before.before.before.before.before.before.before.before.before.before.before.before.before.before.before.before.before.before.before.before.before.before.requires.0.1; list = c.before.before.before.before.before.before.before.before.before.before.before.before.before.before.before.before.before.before.before.before.before.before.before.before.before.before.before.before.before.before.requires.0.2; directory = c.before.before.before.before.before.before.before.before.before.before.before.before.before.before.before.before.before.before.before.before.before.before.before.before.before.before.before.before.before.before.requires.0.3; cells = c.before.before.before.before.before.before.before.before.before.before.before.before.before.before.before.before.before.before.before.before.before.before.before.before.before.before.before.before.before.before.requires.0.4; marks = c.before.before.before.before.before.before.before.before.before.before.before.before.before.before.before.before.before.before.before.before.before.before.before.before.before.before.before.before.before.before.requires.1.0.0; order = c.before.before.before.before.before.before.before.before.before.before.before.before.before.before.before.before.before.before.before.before.before.before.before.before.before.before.before.before.before.before.requires.1.0.1; table = c.before.before.before.before.before.before.before.before.before.before.before.before.before.before.before.before.before.before.before.before.before.before.before.before.before.before.before.before.before.before.requires.1.0.2 }) (c.before.before.before.before.before.before.before.before.before.«open».ensures) _ (c.before.q.given).1)
+returns-in-Refused : tie.Need-returns-in-Refused
+returns-in-Refused c = absurd (never_refused (record { slots = c.requires.0.0; scalars = c.requires.0.1; list = c.requires.0.2; directory = c.requires.0.3; cells = c.requires.0.4; marks = c.requires.1.0.0; order = c.requires.1.0.1; table = c.requires.1.0.2 }) c.«open».ensures _ c.in-Refused.is)
 
-same-length-9 : tie.Need-same-length-9
-same-length-9 c = search rules
+shape_of-slots-in-Ready : tie.Need-shape_of-slots-in-Ready
+shape_of-slots-in-Ready c = search rules
 
-same-length-10 : tie.Need-same-length-10
-same-length-10 c = search rules
+shape_of-scalars-in-Ready : tie.Need-shape_of-scalars-in-Ready
+shape_of-scalars-in-Ready c = search rules
 
-same-length-11 : tie.Need-same-length-11
-same-length-11 c = search rules
+shape_of-list-in-Ready : tie.Need-shape_of-list-in-Ready
+shape_of-list-in-Ready c = search rules
 
-same-length-12 : tie.Need-same-length-12
-same-length-12 c = search rules
+shape_of-directory-in-Ready : tie.Need-shape_of-directory-in-Ready
+shape_of-directory-in-Ready c = search rules
 
-same-length-13 : tie.Need-same-length-13
-same-length-13 c = search rules
+shape_of-cells-in-Ready : tie.Need-shape_of-cells-in-Ready
+shape_of-cells-in-Ready c = search rules
 
-same-length-14 : tie.Need-same-length-14
-same-length-14 c = c.before.before.before.before.before.before.before.before.before.before.before.before.before.before.before.before.before.before.play.auto.1.1.1.1.1.1.0 ∙ c.before.before.before.before.before.before.before.before.before.before.before.before.before.before.before.before.before.before.before.before.before.before.before.before.before.before.before.before.before.before.before.before.before.before.before.before.before.before.before.«open».auto.1.1.1.1.1.0
+shape_of-marks-in-Ready : tie.Need-shape_of-marks-in-Ready
+shape_of-marks-in-Ready c = c.play.auto.marks ∙ c.«open».auto.marks
 
-same-length-15 : tie.Need-same-length-15
-same-length-15 c = search rules
+shape_of-order-in-Ready : tie.Need-shape_of-order-in-Ready
+shape_of-order-in-Ready c = search rules
 
-same-length-16 : tie.Need-same-length-16
-same-length-16 c = c.before.before.before.before.before.before.before.before.before.before.before.before.before.before.before.before.before.before.before.before.before.before.before.before.before.before.before.before.before.before.before.before.before.before.before.before.before.before.before.«open».auto.1.1.1.1.0
+shape_of-table-in-Ready : tie.Need-shape_of-table-in-Ready
+shape_of-table-in-Ready c = c.«open».auto.table
 
-same-length-17 : tie.Need-same-length-17
-same-length-17 c = search rules
+shape_of-roots : tie.Need-shape_of-roots
+shape_of-roots c = search rules
 
-same-length-18 : tie.Need-same-length-18
-same-length-18 c = search rules
+shape_of-out : tie.Need-shape_of-out
+shape_of-out c = search rules
 
-returns-2 : tie.Need-returns-2
-returns-2 c = opened_prints (record { slots = c.before.before.before.before.before.before.before.before.before.before.before.before.before.before.before.before.before.before.before.before.before.before.before.before.before.before.before.before.before.before.before.before.before.before.before.before.before.before.before.before.before.before.before.before.before.before.before.before.before.before.before.before.before.before.before.before.before.before.before.before.requires.0.0; scalars = c.before.before.before.before.before.before.before.before.before.before.before.before.before.before.before.before.before.before.before.before.before.before.before.before.before.before.before.before.before.before.before.before.before.before.before.before.before.before.before.before.before.before.before.before.before.before.before.before.before.before.before.before.before.before.before.before.before.before.before.before.requires.0.1; list = c.before.before.before.before.before.before.before.before.before.before.before.before.before.before.before.before.before.before.before.before.before.before.before.before.before.before.before.before.before.before.before.before.before.before.before.before.before.before.before.before.before.before.before.before.before.before.before.before.before.before.before.before.before.before.before.before.before.before.before.before.requires.0.2; directory = c.before.before.before.before.before.before.before.before.before.before.before.before.before.before.before.before.before.before.before.before.before.before.before.before.before.before.before.before.before.before.before.before.before.before.before.before.before.before.before.before.before.before.before.before.before.before.before.before.before.before.before.before.before.before.before.before.before.before.before.before.requires.0.3; cells = c.before.before.before.before.before.before.before.before.before.before.before.before.before.before.before.before.before.before.before.before.before.before.before.before.before.before.before.before.before.before.before.before.before.before.before.before.before.before.before.before.before.before.before.before.before.before.before.before.before.before.before.before.before.before.before.before.before.before.before.before.requires.0.4; marks = c.before.before.before.before.before.before.before.before.before.before.before.before.before.before.before.before.before.before.before.before.before.before.before.before.before.before.before.before.before.before.before.before.before.before.before.before.before.before.before.before.before.before.before.before.before.before.before.before.before.before.before.before.before.before.before.before.before.before.before.before.requires.1.0.0; order = c.before.before.before.before.before.before.before.before.before.before.before.before.before.before.before.before.before.before.before.before.before.before.before.before.before.before.before.before.before.before.before.before.before.before.before.before.before.before.before.before.before.before.before.before.before.before.before.before.before.before.before.before.before.before.before.before.before.before.before.before.requires.1.0.1; table = c.before.before.before.before.before.before.before.before.before.before.before.before.before.before.before.before.before.before.before.before.before.before.before.before.before.before.before.before.before.before.before.before.before.before.before.before.before.before.before.before.before.before.before.before.before.before.before.before.before.before.before.before.before.before.before.before.before.before.before.before.requires.1.0.2 }) (c.before.before.before.before.before.before.before.before.before.before.before.before.before.before.before.before.before.before.before.before.before.before.before.before.before.before.before.before.before.before.before.before.before.before.before.before.before.before.before.«open».ensures) _ (c.before.before.before.before.before.before.before.before.before.before.before.before.before.before.before.before.before.before.before.before.before.before.before.before.before.before.before.before.before.before.before.h.given).1 (c.before.before.before.before.before.before.before.before.before.before.before.before.before.before.before.before.before.before.before.before.before.before.before.before.before.before.before.before.before.before.before.before.before.before.before.before.before.before.before.before.before.before.before.before.before.before.before.before.before.before.before.before.before.before.before.before.before.before.before.before.args.input.now) (c.before.before.before.before.before.before.before.before.before.before.before.before.before.before.before.before.before.before.before.before.before.before.before.before.before.before.before.before.before.before.before.before.before.before.before.before.before.before.before.before.before.before.before.before.before.before.before.before.before.before.before.before.before.before.before.before.before.before.before.before.requires.1.1.1) (c.before.before.before.before.before.before.before.before.before.before.before.before.before.before.before.before.before.before.play.ensures)
+returns-in-Ready : tie.Need-returns-in-Ready
+returns-in-Ready c = opened_prints (record { slots = c.requires.0.0; scalars = c.requires.0.1; list = c.requires.0.2; directory = c.requires.0.3; cells = c.requires.0.4; marks = c.requires.1.0.0; order = c.requires.1.0.1; table = c.requires.1.0.2 }) c.«open».ensures _ c.in-Ready.is c.args.input.now c.requires.1.1.1 c.play.ensures
 
 pub run_in_spec : {M : Type 1} → statement M
 run_in_spec =
     tie.close
     (tie.spec
-    slice-aggregate-open
+    slice_bounds-open-end
     open-requires
-    enum-known-q
-    enum-known-h
-    slice-aggregate-play
+    enum_known-q
+    enum_known-h
+    slice_bounds-play-end
     play-requires
-    same_length
-    same-length-2
-    same-length-3
-    same-length-4
-    same-length-5
-    same-length-6
-    same-length-7
-    same-length-8
-    returns
-    same-length-9
-    same-length-10
-    same-length-11
-    same-length-12
-    same-length-13
-    same-length-14
-    same-length-15
-    same-length-16
-    same-length-17
-    same-length-18
-    returns-2)
+    shape_of-slots-in-Refused
+    shape_of-scalars-in-Refused
+    shape_of-list-in-Refused
+    shape_of-directory-in-Refused
+    shape_of-cells-in-Refused
+    shape_of-marks-in-Refused
+    shape_of-order-in-Refused
+    shape_of-table-in-Refused
+    returns-in-Refused
+    shape_of-slots-in-Ready
+    shape_of-scalars-in-Ready
+    shape_of-list-in-Ready
+    shape_of-directory-in-Ready
+    shape_of-cells-in-Ready
+    shape_of-marks-in-Ready
+    shape_of-order-in-Ready
+    shape_of-table-in-Ready
+    shape_of-roots
+    shape_of-out
+    returns-in-Ready)

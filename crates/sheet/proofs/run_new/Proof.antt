@@ -3,55 +3,55 @@ use borrow.Author.Rules.{rules}
 use Rattle.sheet.proofs.run_new.Statement.{statement}
 use Rattle.sheet.proofs.run_new.Tie as tie
 
-slice-aggregate-run-in : tie.Need-slice-aggregate-run-in
-slice-aggregate-run-in c = search rules
+slice_bounds-run_in-end : tie.Need-slice_bounds-run_in-end
+slice_bounds-run_in-end c = search rules
 
-slice-aggregate-run-in-2 : tie.Need-slice-aggregate-run-in-2
-slice-aggregate-run-in-2 c = search rules
+slice_bounds-run_in-end-2 : tie.Need-slice_bounds-run_in-end-2
+slice_bounds-run_in-end-2 c = search rules
 
-slice-aggregate-run-in-3 : tie.Need-slice-aggregate-run-in-3
-slice-aggregate-run-in-3 c = search rules
+slice_bounds-run_in-end-3 : tie.Need-slice_bounds-run_in-end-3
+slice_bounds-run_in-end-3 c = search rules
 
-slice-aggregate-run-in-4 : tie.Need-slice-aggregate-run-in-4
-slice-aggregate-run-in-4 c = search rules
+slice_bounds-run_in-end-4 : tie.Need-slice_bounds-run_in-end-4
+slice_bounds-run_in-end-4 c = search rules
 
-slice-aggregate-run-in-5 : tie.Need-slice-aggregate-run-in-5
-slice-aggregate-run-in-5 c = search rules
+slice_bounds-run_in-end-5 : tie.Need-slice_bounds-run_in-end-5
+slice_bounds-run_in-end-5 c = search rules
 
-slice-aggregate-run-in-6 : tie.Need-slice-aggregate-run-in-6
-slice-aggregate-run-in-6 c = search rules
+slice_bounds-run_in-end-6 : tie.Need-slice_bounds-run_in-end-6
+slice_bounds-run_in-end-6 c = search rules
 
-slice-aggregate-run-in-7 : tie.Need-slice-aggregate-run-in-7
-slice-aggregate-run-in-7 c = search rules
+slice_bounds-run_in-end-7 : tie.Need-slice_bounds-run_in-end-7
+slice_bounds-run_in-end-7 c = search rules
 
-slice-aggregate-run-in-8 : tie.Need-slice-aggregate-run-in-8
-slice-aggregate-run-in-8 c = search rules
+slice_bounds-run_in-end-8 : tie.Need-slice_bounds-run_in-end-8
+slice_bounds-run_in-end-8 c = search rules
 
-slice-aggregate-run-in-9 : tie.Need-slice-aggregate-run-in-9
-slice-aggregate-run-in-9 c = search rules
+slice_bounds-run_in-end-9 : tie.Need-slice_bounds-run_in-end-9
+slice_bounds-run_in-end-9 c = search rules
 
-run-in-requires : tie.Need-run-in-requires
-run-in-requires c κs = ((refl, refl, refl, refl, refl), ((refl, refl, refl, refl), let start : tie.Start = search in start.pre))
+run_in-requires : tie.Need-run_in-requires
+run_in-requires c κs = ((refl, refl, refl, refl, refl), ((refl, refl, refl, refl), c.requires))
 
-same_length : tie.Need-same-length
-same_length c = search rules
+shape_of-out : tie.Need-shape_of-out
+shape_of-out c = search rules
 
 returns : tie.Need-returns
-returns c = let at-run-in : tie.After-run-in = search in at-run-in.run_in.ensures
+returns c = c.run_in.ensures
 
 pub run_new_spec : {M : Type 1} → statement M
 run_new_spec =
     tie.close
     (tie.spec
-    slice-aggregate-run-in
-    slice-aggregate-run-in-2
-    slice-aggregate-run-in-3
-    slice-aggregate-run-in-4
-    slice-aggregate-run-in-5
-    slice-aggregate-run-in-6
-    slice-aggregate-run-in-7
-    slice-aggregate-run-in-8
-    slice-aggregate-run-in-9
-    run-in-requires
-    same_length
+    slice_bounds-run_in-end
+    slice_bounds-run_in-end-2
+    slice_bounds-run_in-end-3
+    slice_bounds-run_in-end-4
+    slice_bounds-run_in-end-5
+    slice_bounds-run_in-end-6
+    slice_bounds-run_in-end-7
+    slice_bounds-run_in-end-8
+    slice_bounds-run_in-end-9
+    run_in-requires
+    shape_of-out
     returns)

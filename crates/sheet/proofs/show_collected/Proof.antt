@@ -3,21 +3,27 @@ use borrow.Author.Rules.{rules}
 use Rattle.sheet.proofs.show_collected.Statement.{statement}
 use Rattle.sheet.proofs.show_collected.Tie as tie
 
-enum-known-answer : tie.Need-enum-known-answer
-enum-known-answer c = search rules
+enum_known-answer : tie.Need-enum_known-answer
+enum_known-answer c = search rules
 
-enum-known-answer-2 : tie.Need-enum-known-answer-2
-enum-known-answer-2 c = search rules
+enum_known-answer-in-Refused-1 : tie.Need-enum_known-answer-in-Refused-1
+enum_known-answer-in-Refused-1 c = search rules
 
-number-of-requires : tie.Need-number-of-requires
-number-of-requires c κs = search rules
+number_of-requires : tie.Need-number_of-requires
+number_of-requires c κs = search rules
 
-returns : tie.Need-returns
-returns c = shown-freed (c.before.before.before.args.heap) _ _ (c.before.answer.given).1
+returns-in-Done : tie.Need-returns-in-Done
+returns-in-Done c = shown-freed c.args.heap _ _ c.in-Done.is
 
-returns-2 : tie.Need-returns-2
-returns-2 c = shown-short (c.before.before.before.before.args.heap) _ _ (c.before.before.answer2.given).1 (c.number_of.ensures)
+returns-in-Refused : tie.Need-returns-in-Refused
+returns-in-Refused c = shown-short c.args.heap _ _ c.in-Refused.is c.number_of.ensures
 
 pub show_collected_spec : {M : Type 1} → statement M
 show_collected_spec =
-    tie.close (tie.spec enum-known-answer enum-known-answer-2 number-of-requires returns returns-2)
+    tie.close
+    (tie.spec
+    enum_known-answer
+    enum_known-answer-in-Refused-1
+    number_of-requires
+    returns-in-Done
+    returns-in-Refused)

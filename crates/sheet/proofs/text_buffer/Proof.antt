@@ -8,4 +8,7 @@ returns : tie.Need-returns
 returns c = sym (length-replicate {A = ℕ} 4063232 0)
 
 pub text_buffer_spec : {M : Type 1} → statement M
-text_buffer_spec = tie.close (tie.spec returns)
+text_buffer_spec =
+    tie.close
+    (tie.spec
+    returns)

@@ -9,139 +9,139 @@ use borrow.Author.Rules.{rules}
 use Rattle.sheet.proofs.turn.Statement.{statement}
 use Rattle.sheet.proofs.turn.Tie as tie
 
-operands-at-requires : tie.Need-operands-at-requires
-operands-at-requires c κs = search rules
+operands_at-requires : tie.Need-operands_at-requires
+operands_at-requires c κs = search rules
 
-enum_told : tie.Need-enum-told
-enum_told c = search rules
+enum_told-1 : tie.Need-enum_told-1
+enum_told-1 c = search rules
 
-put-unknown-requires : tie.Need-put-unknown-requires
-put-unknown-requires c κs = search rules
+put_unknown-e-requires : tie.Need-put_unknown-e-requires
+put_unknown-e-requires c κs = search rules
 
-enum-known-n : tie.Need-enum-known-n
-enum-known-n c = search rules
+enum_known-n : tie.Need-enum_known-n
+enum_known-n c = search rules
 
-shared-slice-read-command : tie.Need-shared-slice-read-command
-shared-slice-read-command c = search rules
+bounds-input-at : tie.Need-bounds-input-at
+bounds-input-at c = search rules
 
-add_start : tie.Need-overflow-add-start
-add_start c = omega (arith, c.before.before.before.before.before.before.before.before.before.before.before.before.before.before.before.before.before.before.requires.1.1.0, c.before.before.before.before.before.before.before.before.before.before.before.before.before.before.before.before.before.before.well-formed.1.1.1.1.1.1.1.1.1.1.1.1.0)
+overflow_add-start : tie.Need-overflow_add-start
+overflow_add-start c = omega (arith, c.requires.1.1.0, c.well_formed.1.1.1.1.1.1.1.1.1.1.1.1.0)
 
-sub-root-turn : tie.Need-overflow-sub-root-turn
-sub-root-turn c = search rules
+slice_bounds-root_turn-count : tie.Need-slice_bounds-root_turn-count
+slice_bounds-root_turn-count c = search rules
 
-part-root-turn-start : tie.Need-slice-bounds-root-turn-start
-part-root-turn-start c = search rules
+slice_bounds-root_turn-start : tie.Need-slice_bounds-root_turn-start
+slice_bounds-root_turn-start c = search rules
 
-part-root-turn-end : tie.Need-slice-bounds-root-turn-end
-part-root-turn-end c = search rules
+slice_bounds-root_turn-end : tie.Need-slice_bounds-root_turn-end
+slice_bounds-root_turn-end c = search rules
 
-root-turn-requires : tie.Need-root-turn-requires
-root-turn-requires c κs = (c.before.before.before.before.before.before.before.before.before.before.before.before.before.before.before.before.before.before.before.before.before.before.requires.1.0, (rw (tail_whole (c.before.before.before.before.before.before.before.before.before.before.before.before.before.before.before.before.before.before.before.before.before.before.args.input.now) (c.before.before.before.before.before.before.before.before.before.before.before.before.before.before.before.before.before.before.before.before.before.before.args.at + 1)) (needs_root (get_or (c.before.before.before.before.before.before.before.before.before.before.before.before.before.before.before.before.before.before.before.before.before.before.args.input.now) (c.before.before.before.before.before.before.before.before.before.before.before.before.before.before.before.before.before.before.before.before.before.before.args.at) 0) (drop (c.before.before.before.before.before.before.before.before.before.before.before.before.before.before.before.before.before.before.before.before.before.before.args.at + 1) (c.before.before.before.before.before.before.before.before.before.before.before.before.before.before.before.before.before.before.before.before.before.before.args.input.now)) (c.before.before.before.if1.true) (supplied (get_or (c.before.before.before.before.before.before.before.before.before.before.before.before.before.before.before.before.before.before.before.before.before.before.args.input.now) (c.before.before.before.before.before.before.before.before.before.before.before.before.before.before.before.before.before.before.before.before.before.before.args.at) 0) _ (drop (c.before.before.before.before.before.before.before.before.before.before.before.before.before.before.before.before.before.before.before.before.before.before.args.at + 1) (c.before.before.before.before.before.before.before.before.before.before.before.before.before.before.before.before.before.before.before.before.before.before.args.input.now)) (c.before.before.before.before.before.before.before.before.operands-at.ensures) (c.before.before.before.before.before.before.n.given).1)), c.before.before.before.before.before.before.before.before.before.before.before.before.before.before.before.before.before.before.before.before.before.before.requires.1.1.1))
+root_turn-r-requires : tie.Need-root_turn-r-requires
+root_turn-r-requires c κs = (c.requires.1.0, (rw (tail_whole c.args.input.now (c.args.at + 1)) (needs_root (get_or c.args.input.now c.args.at 0) (drop (c.args.at + 1) c.args.input.now) c.if-command-eq11.true (supplied (get_or c.args.input.now c.args.at 0) _ (drop (c.args.at + 1) c.args.input.now) c.operands_at.ensures c.in-Bytes.is)), c.requires.1.1.1))
 
-add-t37 : tie.Need-overflow-add-t37
-add-t37 c = omega (arith, c.before.before.before.before.before.before.before.before.before.before.before.before.before.before.before.before.before.before.before.before.before.before.before.before.before.before.before.requires.1.1.0, c.before.before.before.before.before.before.before.before.before.before.before.before.before.before.before.before.before.before.before.before.before.before.before.before.before.before.before.well-formed.1.1.1.1.1.1.1.1.1.1.1.1.0, supplied_size (get_or (c.before.before.before.before.before.before.before.before.before.before.before.before.before.before.before.before.before.before.before.before.before.before.before.before.before.before.before.args.input.now) (c.before.before.before.before.before.before.before.before.before.before.before.before.before.before.before.before.before.before.before.before.before.before.before.before.before.before.before.args.at) 0) _ (drop (c.before.before.before.before.before.before.before.before.before.before.before.before.before.before.before.before.before.before.before.before.before.before.before.before.before.before.before.args.at + 1) (c.before.before.before.before.before.before.before.before.before.before.before.before.before.before.before.before.before.before.before.before.before.before.before.before.before.before.before.args.input.now)) (c.before.before.before.before.before.before.before.before.before.before.before.before.before.operands-at.ensures) (c.before.before.before.before.before.before.before.before.before.before.before.n.given).1, length-drop (c.before.before.before.before.before.before.before.before.before.before.before.before.before.before.before.before.before.before.before.before.before.before.before.before.before.before.before.args.at + 1) (c.before.before.before.before.before.before.before.before.before.before.before.before.before.before.before.before.before.before.before.before.before.before.before.before.before.before.before.args.input.now))
+overflow_add-result : tie.Need-overflow_add-result
+overflow_add-result c = omega (arith, c.requires.1.1.0, c.well_formed.1.1.1.1.1.1.1.1.1.1.1.1.0, supplied_size (get_or c.args.input.now c.args.at 0) _ (drop (c.args.at + 1) c.args.input.now) c.operands_at.ensures c.in-Bytes.is, length-drop (c.args.at + 1) c.args.input.now)
 
-same_length : tie.Need-same-length
-same_length c = search rules
+shape_of-roots-then-command-eq11 : tie.Need-shape_of-roots-then-command-eq11
+shape_of-roots-then-command-eq11 c = search rules
 
-same-length-2 : tie.Need-same-length-2
-same-length-2 c = search rules
+shape_of-out-then-command-eq11 : tie.Need-shape_of-out-then-command-eq11
+shape_of-out-then-command-eq11 c = search rules
 
-returns : tie.Need-returns
-returns c = (turns_command (c.before.before.before.before.before.before.before.before.before.before.before.before.before.before.before.before.before.before.before.before.before.before.before.before.before.before.before.args.at) (c.before.before.before.before.before.before.before.before.before.before.before.before.before.before.before.before.before.before.before.before.before.before.before.before.before.before.before.requires.1.1.0) (c.before.before.before.before.before.before.before.before.before.before.before.before.before.operands-at.ensures) _ (c.before.before.before.before.before.before.before.before.before.before.before.n.given).1 (sym (c.before.before.before.before.before.before.before.before.if1.true)) (tail_whole (c.before.before.before.before.before.before.before.before.before.before.before.before.before.before.before.before.before.before.before.before.before.before.before.before.before.before.before.args.input.now) (c.before.before.before.before.before.before.before.before.before.before.before.before.before.before.before.before.before.before.before.before.before.before.before.before.before.before.before.args.at + 1)) (c.before.before.before.before.root-turn.ensures.0 _ (used_of _ _)), (c.before.before.before.before.before.before.before.before.before.before.before.before.before.before.before.before.before.before.before.before.before.before.before.before.before.before.before.requires.0, c.before.before.before.before.root-turn.ensures.1))
+returns-then-command-eq11 : tie.Need-returns-then-command-eq11
+returns-then-command-eq11 c = (turns_command c.args.at c.requires.1.1.0 c.operands_at.ensures _ c.in-Bytes.is (sym c.if-command-eq11.true) (tail_whole c.args.input.now (c.args.at + 1)) (c.root_turn-r.ensures.0 _ (used_of _ _)), (c.requires.0, c.root_turn-r.ensures.1))
 
-slice-reshare-prefix-call-turn : tie.Need-slice-reshare-prefix-call-turn
-slice-reshare-prefix-call-turn c = search rules
+slice_bounds-call_turn-end : tie.Need-slice_bounds-call_turn-end
+slice_bounds-call_turn-end c = search rules
 
-slice-aggregate-call-turn : tie.Need-slice-aggregate-call-turn
-slice-aggregate-call-turn c = sym (length-take-le (c.before.before.before.before.before.before.before.before.before.before.before.before.before.before.before.before.before.before.before.before.before.before.before.before.before.before.before.args.count) (c.before.before.before.before.before.before.before.before.before.before.before.before.before.before.before.before.before.before.before.before.before.before.before.before.before.before.before.args.roots.now) (omega (arith, c.before.before.before.before.before.before.before.before.before.before.before.before.before.before.before.before.before.before.before.before.before.before.before.before.before.before.before.requires.1.0.room, c.before.before.before.before.before.before.before.before.before.before.before.before.before.before.before.before.before.before.before.before.before.before.before.before.before.before.before.requires.1.0.few)))
+slice_bounds-call_turn-end-in-Bytes : tie.Need-slice_bounds-call_turn-end-in-Bytes
+slice_bounds-call_turn-end-in-Bytes c = sym (length-take-le c.args.count c.args.roots.now (omega (arith, c.requires.1.0.room, c.requires.1.0.few)))
 
-sub-call-turn : tie.Need-overflow-sub-call-turn
-sub-call-turn c = search rules
+slice_bounds-call_turn-count : tie.Need-slice_bounds-call_turn-count
+slice_bounds-call_turn-count c = search rules
 
-part-call-turn-start : tie.Need-slice-bounds-call-turn-start
-part-call-turn-start c = search rules
+slice_bounds-call_turn-start : tie.Need-slice_bounds-call_turn-start
+slice_bounds-call_turn-start c = search rules
 
-part-call-turn-end : tie.Need-slice-bounds-call-turn-end
-part-call-turn-end c = search rules
+slice_bounds-call_turn-end-in-Bytes-2 : tie.Need-slice_bounds-call_turn-end-in-Bytes-2
+slice_bounds-call_turn-end-in-Bytes-2 c = search rules
 
-call-turn-requires : tie.Need-call-turn-requires
-call-turn-requires c κs = (c.before.before.before.before.before.before.before.before.before.before.before.before.before.before.before.before.before.before.before.before.before.before.before.before.before.before.before.before.before.requires.0, (supplied_same (get_or (c.before.before.before.before.before.before.before.before.before.before.before.before.before.before.before.before.before.before.before.before.before.before.before.before.before.before.before.before.before.args.input.now) (c.before.before.before.before.before.before.before.before.before.before.before.before.before.before.before.before.before.before.before.before.before.before.before.before.before.before.before.before.before.args.at) 0) (drop (c.before.before.before.before.before.before.before.before.before.before.before.before.before.before.before.before.before.before.before.before.before.before.before.before.before.before.before.before.before.args.at + 1) (c.before.before.before.before.before.before.before.before.before.before.before.before.before.before.before.before.before.before.before.before.before.before.before.before.before.before.before.before.before.args.input.now)) (tail_whole (c.before.before.before.before.before.before.before.before.before.before.before.before.before.before.before.before.before.before.before.before.before.before.before.before.before.before.before.before.before.args.input.now) (c.before.before.before.before.before.before.before.before.before.before.before.before.before.before.before.before.before.before.before.before.before.before.before.before.before.before.before.before.before.args.at + 1)) (supplied (get_or (c.before.before.before.before.before.before.before.before.before.before.before.before.before.before.before.before.before.before.before.before.before.before.before.before.before.before.before.before.before.args.input.now) (c.before.before.before.before.before.before.before.before.before.before.before.before.before.before.before.before.before.before.before.before.before.before.before.before.before.before.before.before.before.args.at) 0) _ (drop (c.before.before.before.before.before.before.before.before.before.before.before.before.before.before.before.before.before.before.before.before.before.before.before.before.before.before.before.before.before.args.at + 1) (c.before.before.before.before.before.before.before.before.before.before.before.before.before.before.before.before.before.before.before.before.before.before.before.before.before.before.before.before.before.args.input.now)) (c.before.before.before.before.before.before.before.before.before.before.before.before.before.before.before.operands-at.ensures) (c.before.before.before.before.before.before.before.before.before.before.before.before.before.n.given).1), (c.before.before.before.before.before.before.before.before.before.before.if1.false, c.before.before.before.before.before.before.before.before.before.before.before.before.before.before.before.before.before.before.before.before.before.before.before.before.before.before.before.before.before.requires.1.1.1)))
+call_turn-c-requires : tie.Need-call_turn-c-requires
+call_turn-c-requires c κs = (c.requires.0, (supplied_same (get_or c.args.input.now c.args.at 0) (drop (c.args.at + 1) c.args.input.now) (tail_whole c.args.input.now (c.args.at + 1)) (supplied (get_or c.args.input.now c.args.at 0) _ (drop (c.args.at + 1) c.args.input.now) c.operands_at.ensures c.in-Bytes.is), (c.if-command-eq11.false, c.requires.1.1.1)))
 
-add-t59 : tie.Need-overflow-add-t59
-add-t59 c = omega (arith, c.before.before.before.before.before.before.before.before.before.before.before.before.before.before.before.before.before.before.before.before.before.before.before.before.before.before.before.before.before.before.before.before.before.before.before.before.before.before.before.before.before.before.before.before.before.before.before.requires.1.1.0, c.before.before.before.before.before.before.before.before.before.before.before.before.before.before.before.before.before.before.before.before.before.before.before.before.before.before.before.before.before.before.before.before.before.before.before.before.before.before.before.before.before.before.before.before.before.before.before.well-formed.1.1.1.1.1.1.1.1.1.1.1.1.0, supplied_size (get_or (c.before.before.before.before.before.before.before.before.before.before.before.before.before.before.before.before.before.before.before.before.before.before.before.before.before.before.before.before.before.before.before.before.before.before.before.before.before.before.before.before.before.before.before.before.before.before.before.args.input.now) (c.before.before.before.before.before.before.before.before.before.before.before.before.before.before.before.before.before.before.before.before.before.before.before.before.before.before.before.before.before.before.before.before.before.before.before.before.before.before.before.before.before.before.before.before.before.before.before.args.at) 0) _ (drop (c.before.before.before.before.before.before.before.before.before.before.before.before.before.before.before.before.before.before.before.before.before.before.before.before.before.before.before.before.before.before.before.before.before.before.before.before.before.before.before.before.before.before.before.before.before.before.before.args.at + 1) (c.before.before.before.before.before.before.before.before.before.before.before.before.before.before.before.before.before.before.before.before.before.before.before.before.before.before.before.before.before.before.before.before.before.before.before.before.before.before.before.before.before.before.before.before.before.before.before.args.input.now)) (c.before.before.before.before.before.before.before.before.before.before.before.before.before.before.before.before.before.before.before.before.before.before.before.before.before.before.before.before.before.before.before.before.before.operands-at.ensures) (c.before.before.before.before.before.before.before.before.before.before.before.before.before.before.before.before.before.before.before.before.before.before.before.before.before.before.before.before.before.before.before.n.given).1, length-drop (c.before.before.before.before.before.before.before.before.before.before.before.before.before.before.before.before.before.before.before.before.before.before.before.before.before.before.before.before.before.before.before.before.before.before.before.before.before.before.before.before.before.before.before.before.before.before.before.args.at + 1) (c.before.before.before.before.before.before.before.before.before.before.before.before.before.before.before.before.before.before.before.before.before.before.before.before.before.before.before.before.before.before.before.before.before.before.before.before.before.before.before.before.before.before.before.before.before.before.before.args.input.now))
+overflow_add-result-in-Bytes : tie.Need-overflow_add-result-in-Bytes
+overflow_add-result-in-Bytes c = omega (arith, c.requires.1.1.0, c.well_formed.1.1.1.1.1.1.1.1.1.1.1.1.0, supplied_size (get_or c.args.input.now c.args.at 0) _ (drop (c.args.at + 1) c.args.input.now) c.operands_at.ensures c.in-Bytes.is, length-drop (c.args.at + 1) c.args.input.now)
 
-same-length-3 : tie.Need-same-length-3
-same-length-3 c = search rules
+shape_of-out-in-Missing : tie.Need-shape_of-out-in-Missing
+shape_of-out-in-Missing c = search rules
 
-returns-2 : tie.Need-returns-2
-returns-2 c = (turns_missing (c.before.before.before.before.before.before.before.before.before.before.before.before.before.before.before.before.before.before.before.before.args.at) (c.before.before.before.before.before.before.before.before.before.before.before.before.before.before.before.before.before.before.before.before.requires.1.1.0) (c.before.before.before.before.before.before.operands-at.ensures) (c.before.before.before.before.enum_told.given).1 (used_of _ _) (c.before.before.put-unknown.ensures), (c.before.before.before.before.before.before.before.before.before.before.before.before.before.before.before.before.before.before.before.before.requires.0, c.before.before.before.before.before.before.before.before.before.before.before.before.before.before.before.before.before.before.before.before.requires.1.0))
+returns-in-Missing : tie.Need-returns-in-Missing
+returns-in-Missing c = (turns_missing c.args.at c.requires.1.1.0 c.operands_at.ensures c.in-Missing.is (used_of _ _) c.put_unknown-e.ensures, (c.requires.0, c.requires.1.0))
 
-same-length-4 : tie.Need-same-length-4
-same-length-4 c = search rules
+shape_of-slots : tie.Need-shape_of-slots
+shape_of-slots c = search rules
 
-same-length-5 : tie.Need-same-length-5
-same-length-5 c = search rules
+shape_of-scalars : tie.Need-shape_of-scalars
+shape_of-scalars c = search rules
 
-same-length-6 : tie.Need-same-length-6
-same-length-6 c = search rules
+shape_of-list : tie.Need-shape_of-list
+shape_of-list c = search rules
 
-same-length-7 : tie.Need-same-length-7
-same-length-7 c = search rules
+shape_of-directory : tie.Need-shape_of-directory
+shape_of-directory c = search rules
 
-same-length-8 : tie.Need-same-length-8
-same-length-8 c = search rules
+shape_of-cells : tie.Need-shape_of-cells
+shape_of-cells c = search rules
 
-same-length-9 : tie.Need-same-length-9
-same-length-9 c = search rules
+shape_of-marks : tie.Need-shape_of-marks
+shape_of-marks c = search rules
 
-same-length-10 : tie.Need-same-length-10
-same-length-10 c = search rules
+shape_of-order : tie.Need-shape_of-order
+shape_of-order c = search rules
 
-same-length-11 : tie.Need-same-length-11
-same-length-11 c = search rules
+shape_of-roots : tie.Need-shape_of-roots
+shape_of-roots c = search rules
 
-same-length-12 : tie.Need-same-length-12
-same-length-12 c = search rules
+shape_of-out-else-command-eq11 : tie.Need-shape_of-out-else-command-eq11
+shape_of-out-else-command-eq11 c = search rules
 
-returns-3 : tie.Need-returns-3
-returns-3 c = (turns_command (c.before.before.before.before.before.before.before.before.before.before.before.before.before.before.before.before.before.before.before.before.before.before.before.before.before.before.before.before.before.before.before.before.before.before.before.before.before.before.before.before.before.before.before.before.before.before.before.args.at) (c.before.before.before.before.before.before.before.before.before.before.before.before.before.before.before.before.before.before.before.before.before.before.before.before.before.before.before.before.before.before.before.before.before.before.before.before.before.before.before.before.before.before.before.before.before.before.before.requires.1.1.0) (c.before.before.before.before.before.before.before.before.before.before.before.before.before.before.before.before.before.before.before.before.before.before.before.before.before.before.before.before.before.before.before.before.before.operands-at.ensures) _ (c.before.before.before.before.before.before.before.before.before.before.before.before.before.before.before.before.before.before.before.before.before.before.before.before.before.before.before.before.before.before.before.n.given).1 refl (tail_whole (c.before.before.before.before.before.before.before.before.before.before.before.before.before.before.before.before.before.before.before.before.before.before.before.before.before.before.before.before.before.before.before.before.before.before.before.before.before.before.before.before.before.before.before.before.before.before.before.args.input.now) (c.before.before.before.before.before.before.before.before.before.before.before.before.before.before.before.before.before.before.before.before.before.before.before.before.before.before.before.before.before.before.before.before.before.before.before.before.before.before.before.before.before.before.before.before.before.before.before.args.at + 1)) (c.before.before.before.before.before.before.before.before.before.before.before.before.before.before.before.before.before.call-turn.ensures.0), (c.before.before.before.before.before.before.before.before.before.before.before.before.before.before.before.before.before.call-turn.ensures.1, c.before.before.before.before.before.before.before.before.before.before.before.before.before.before.before.before.before.before.before.before.before.before.before.before.before.before.before.before.before.before.before.before.before.before.before.before.before.before.before.before.before.before.before.before.before.before.before.requires.1.0))
+returns-else-command-eq11 : tie.Need-returns-else-command-eq11
+returns-else-command-eq11 c = (turns_command c.args.at c.requires.1.1.0 c.operands_at.ensures _ c.in-Bytes.is refl (tail_whole c.args.input.now (c.args.at + 1)) c.call_turn-c.ensures.0, (c.call_turn-c.ensures.1, c.requires.1.0))
 
 pub turn_spec : {M : Type 1} → statement M
 turn_spec =
     tie.close
     (tie.spec
-    operands-at-requires
-    enum_told
-    put-unknown-requires
-    enum-known-n
-    shared-slice-read-command
-    add_start
-    sub-root-turn
-    part-root-turn-start
-    part-root-turn-end
-    root-turn-requires
-    add-t37
-    same_length
-    same-length-2
-    returns
-    slice-reshare-prefix-call-turn
-    slice-aggregate-call-turn
-    sub-call-turn
-    part-call-turn-start
-    part-call-turn-end
-    call-turn-requires
-    add-t59
-    same-length-3
-    returns-2
-    same-length-4
-    same-length-5
-    same-length-6
-    same-length-7
-    same-length-8
-    same-length-9
-    same-length-10
-    same-length-11
-    same-length-12
-    returns-3)
+    operands_at-requires
+    enum_told-1
+    put_unknown-e-requires
+    enum_known-n
+    bounds-input-at
+    overflow_add-start
+    slice_bounds-root_turn-count
+    slice_bounds-root_turn-start
+    slice_bounds-root_turn-end
+    root_turn-r-requires
+    overflow_add-result
+    shape_of-roots-then-command-eq11
+    shape_of-out-then-command-eq11
+    returns-then-command-eq11
+    slice_bounds-call_turn-end
+    slice_bounds-call_turn-end-in-Bytes
+    slice_bounds-call_turn-count
+    slice_bounds-call_turn-start
+    slice_bounds-call_turn-end-in-Bytes-2
+    call_turn-c-requires
+    overflow_add-result-in-Bytes
+    shape_of-out-in-Missing
+    returns-in-Missing
+    shape_of-slots
+    shape_of-scalars
+    shape_of-list
+    shape_of-directory
+    shape_of-cells
+    shape_of-marks
+    shape_of-order
+    shape_of-roots
+    shape_of-out-else-command-eq11
+    returns-else-command-eq11)

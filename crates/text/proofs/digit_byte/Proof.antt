@@ -4,26 +4,33 @@ use borrow.Author.Rules.{rules}
 use Rattle.text.proofs.digit_byte.Statement.{statement}
 use Rattle.text.proofs.digit_byte.Tie as tie
 
-add-result : tie.Need-overflow-add-result
-add-result c = search rules
+overflow_add-result : tie.Need-overflow_add-result
+overflow_add-result c = search rules
 
-cast-result : tie.Need-overflow-cast-result
-cast-result c = search rules
+overflow_cast-result : tie.Need-overflow_cast-result
+overflow_cast-result c = search rules
 
-add-result-2 : tie.Need-overflow-add-result-2
-add-result-2 c = search rules
+overflow_add-result-else-d-lt10 : tie.Need-overflow_add-result-else-d-lt10
+overflow_add-result-else-d-lt10 c = search rules
 
-cast-result-2 : tie.Need-overflow-cast-result-2
-cast-result-2 c = search rules
+overflow_cast-result-else-d-lt10 : tie.Need-overflow_cast-result-else-d-lt10
+overflow_cast-result-else-d-lt10 c = search rules
 
-returns : tie.Need-returns
+returns-then-d-lt10 : tie.Need-returns-then-d-lt10
 unfolding digit
-returns c = rw (lt-ltb c.before.args.d 10 c.if1.true)
+returns-then-d-lt10 c = rw (lt-ltb c.args.d 10 c.if-d-lt10.true)
 
-returns-2 : tie.Need-returns-2
+returns-else-d-lt10 : tie.Need-returns-else-d-lt10
 unfolding digit
-returns-2 c = rw (le-ltb c.before.args.d 10 c.if1.false)
+returns-else-d-lt10 c = rw (le-ltb c.args.d 10 c.if-d-lt10.false)
 
 pub digit_byte_spec : {M : Type 1} → statement M
 digit_byte_spec =
-    tie.close (tie.spec add-result cast-result add-result-2 cast-result-2 returns returns-2)
+    tie.close
+    (tie.spec
+    overflow_add-result
+    overflow_cast-result
+    overflow_add-result-else-d-lt10
+    overflow_cast-result-else-d-lt10
+    returns-then-d-lt10
+    returns-else-d-lt10)

@@ -4,17 +4,23 @@ use borrow.Author.Rules.{rules}
 use Rattle.text.proofs.put_byte.Statement.{statement}
 use Rattle.text.proofs.put_byte.Tie as tie
 
-slice-write-out : tie.Need-slice-write-out
-slice-write-out c = search rules
+bounds-out-at : tie.Need-bounds-out-at
+bounds-out-at c = search rules
 
-add-result : tie.Need-overflow-add-result
-add-result c = search rules
+overflow_add-result : tie.Need-overflow_add-result
+overflow_add-result c = search rules
 
-same_length : tie.Need-same-length
-same_length c = search rules
+shape_of-out : tie.Need-shape_of-out
+shape_of-out c = search rules
 
 returns : tie.Need-returns
 returns c = puts-byte c.args.out.now c.args.at c.args.b (omega arith)
 
 pub put_byte_spec : {M : Type 1} → statement M
-put_byte_spec = tie.close (tie.spec slice-write-out add-result same_length returns)
+put_byte_spec =
+    tie.close
+    (tie.spec
+    bounds-out-at
+    overflow_add-result
+    shape_of-out
+    returns)

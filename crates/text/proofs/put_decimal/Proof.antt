@@ -7,18 +7,23 @@ use borrow.Author.Rules.{rules}
 use Rattle.text.proofs.put_decimal.Statement.{statement}
 use Rattle.text.proofs.put_decimal.Tie as tie
 
-decimal-width-requires : tie.Need-decimal-width-requires
-decimal-width-requires c κs = search rules
+decimal_width-n-requires : tie.Need-decimal_width-n-requires
+decimal_width-n-requires c κs = search rules
 
-put-digits-requires : tie.Need-put-digits-requires
-put-digits-requires c κs = omega (arith, length_digits 10 c.before.decimal-width.result c.before.before.before.args.w, decimal_most c.before.before.before.args.w, ap length c.before.decimal-width.ensures)
+put_digits-requires : tie.Need-put_digits-requires
+put_digits-requires c κs = omega (arith, length_digits 10 c.decimal_width-n.result c.args.w, decimal_most c.args.w, ap length c.decimal_width-n.ensures)
 
-same_length : tie.Need-same-length
-same_length c = search rules
+shape_of-out : tie.Need-shape_of-out
+shape_of-out c = search rules
 
 returns : tie.Need-returns
-returns c = puts-same (sym c.before.before.before.before.decimal-width.ensures) c.before.before.put-digits.ensures
+returns c = puts-same (sym c.decimal_width-n.ensures) c.put_digits.ensures
 
 pub put_decimal_spec : {M : Type 1} → statement M
 put_decimal_spec =
-    tie.close (tie.spec decimal-width-requires put-digits-requires same_length returns)
+    tie.close
+    (tie.spec
+    decimal_width-n-requires
+    put_digits-requires
+    shape_of-out
+    returns)

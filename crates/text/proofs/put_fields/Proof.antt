@@ -6,28 +6,28 @@ use borrow.Author.Rules.{rules}
 use Rattle.text.proofs.put_fields.Statement.{statement}
 use Rattle.text.proofs.put_fields.Tie as tie
 
-put-spaced-decimal-requires : tie.Need-put-spaced-decimal-requires
-put-spaced-decimal-requires c κs = search rules
+put_spaced_decimal-a-requires : tie.Need-put_spaced_decimal-a-requires
+put_spaced_decimal-a-requires c κs = search rules
 
-put-spaced-hex-requires : tie.Need-put-spaced-hex-requires
-put-spaced-hex-requires c κs = omega (arith, c.before.before.before.put-spaced-decimal.ensures.ends, c.before.before.before.put-spaced-decimal.ensures.size, decimal_most c.before.before.before.before.before.before.args.refusal)
+put_spaced_hex-b-requires : tie.Need-put_spaced_hex-b-requires
+put_spaced_hex-b-requires c κs = omega (arith, c.put_spaced_decimal-a.ensures.ends, c.put_spaced_decimal-a.ensures.size, decimal_most c.args.refusal)
 
-put-spaced-decimal-requires-2 : tie.Need-put-spaced-decimal-requires-2
-put-spaced-decimal-requires-2 c κs = omega (arith, c.before.before.before.before.before.before.before.put-spaced-decimal.ensures.ends, c.before.before.before.before.before.before.before.put-spaced-decimal.ensures.size, c.before.before.before.put-spaced-hex.ensures.ends, c.before.before.before.put-spaced-hex.ensures.size, decimal_most c.before.before.before.before.before.before.before.before.before.before.args.refusal, length_digits 16 16 c.before.before.before.before.before.before.before.before.before.before.args.word)
+put_spaced_decimal-requires : tie.Need-put_spaced_decimal-requires
+put_spaced_decimal-requires c κs = omega (arith, c.put_spaced_decimal-a.ensures.ends, c.put_spaced_decimal-a.ensures.size, c.put_spaced_hex-b.ensures.ends, c.put_spaced_hex-b.ensures.size, decimal_most c.args.refusal, length_digits 16 16 c.args.word)
 
-same_length : tie.Need-same-length
-same_length c = search rules
+shape_of-out : tie.Need-shape_of-out
+shape_of-out c = search rules
 
 returns : tie.Need-returns
 unfolding line_fields
-returns c = puts-append (puts-append c.before.before.before.before.before.before.before.before.before.before.put-spaced-decimal.ensures c.before.before.before.before.before.before.put-spaced-hex.ensures) c.before.before.put-spaced-decimal2.ensures
+returns c = puts-append (puts-append c.put_spaced_decimal-a.ensures c.put_spaced_hex-b.ensures) c.put_spaced_decimal.ensures
 
 pub put_fields_spec : {M : Type 1} → statement M
 put_fields_spec =
     tie.close
     (tie.spec
-    put-spaced-decimal-requires
-    put-spaced-hex-requires
-    put-spaced-decimal-requires-2
-    same_length
+    put_spaced_decimal-a-requires
+    put_spaced_hex-b-requires
+    put_spaced_decimal-requires
+    shape_of-out
     returns)

@@ -6,17 +6,23 @@ use borrow.Author.Rules.{rules}
 use Rattle.text.proofs.put_head.Statement.{statement}
 use Rattle.text.proofs.put_head.Tie as tie
 
-put-hex-requires : tie.Need-put-hex-requires
-put-hex-requires c κs = search rules
+put_hex-a-requires : tie.Need-put_hex-a-requires
+put_hex-a-requires c κs = search rules
 
-put-fields-requires : tie.Need-put-fields-requires
-put-fields-requires c κs = omega (arith, c.before.before.before.put-hex.ensures.ends, c.before.before.before.put-hex.ensures.size, length_digits 16 2 c.before.before.before.before.before.before.args.code)
+put_fields-requires : tie.Need-put_fields-requires
+put_fields-requires c κs = omega (arith, c.put_hex-a.ensures.ends, c.put_hex-a.ensures.size, length_digits 16 2 c.args.code)
 
-same_length : tie.Need-same-length
-same_length c = search rules
+shape_of-out : tie.Need-shape_of-out
+shape_of-out c = search rules
 
 returns : tie.Need-returns
-returns c = puts_head (digits 16 2 c.before.before.before.before.before.before.before.before.before.args.code) c.before.before.before.before.before.before.before.before.before.args.refusal c.before.before.before.before.before.before.before.before.before.args.word c.before.before.before.before.before.before.before.before.before.args.used c.before.before.before.before.before.before.put-hex.ensures c.before.before.put-fields.ensures
+returns c = puts_head (digits 16 2 c.args.code) c.args.refusal c.args.word c.args.used c.put_hex-a.ensures c.put_fields.ensures
 
 pub put_head_spec : {M : Type 1} → statement M
-put_head_spec = tie.close (tie.spec put-hex-requires put-fields-requires same_length returns)
+put_head_spec =
+    tie.close
+    (tie.spec
+    put_hex-a-requires
+    put_fields-requires
+    shape_of-out
+    returns)

@@ -6,17 +6,23 @@ use borrow.Author.Rules.{rules}
 use Rattle.text.proofs.put_line.Statement.{statement}
 use Rattle.text.proofs.put_line.Tie as tie
 
-put-head-requires : tie.Need-put-head-requires
-put-head-requires c κs = search rules
+put_head-a-requires : tie.Need-put_head-a-requires
+put_head-a-requires c κs = search rules
 
-put-byte-requires : tie.Need-put-byte-requires
-put-byte-requires c κs = omega (arith, c.before.before.before.put-head.ensures.ends, c.before.before.before.put-head.ensures.size, length_digits 16 2 c.before.before.before.before.before.before.args.code, length_head (digits 16 2 c.before.before.before.before.before.before.args.code) c.before.before.before.before.before.before.args.refusal c.before.before.before.before.before.before.args.word c.before.before.before.before.before.before.args.used)
+put_byte-requires : tie.Need-put_byte-requires
+put_byte-requires c κs = omega (arith, c.put_head-a.ensures.ends, c.put_head-a.ensures.size, length_digits 16 2 c.args.code, length_head (digits 16 2 c.args.code) c.args.refusal c.args.word c.args.used)
 
-same_length : tie.Need-same-length
-same_length c = search rules
+shape_of-out : tie.Need-shape_of-out
+shape_of-out c = search rules
 
 returns : tie.Need-returns
-returns c = puts_line (digits 16 2 c.before.before.before.before.before.before.before.before.before.args.code) c.before.before.before.before.before.before.before.before.before.args.refusal c.before.before.before.before.before.before.before.before.before.args.word c.before.before.before.before.before.before.before.before.before.args.used c.before.before.before.before.before.before.put-head.ensures c.before.before.put_byte.ensures
+returns c = puts_line (digits 16 2 c.args.code) c.args.refusal c.args.word c.args.used c.put_head-a.ensures c.put_byte.ensures
 
 pub put_line_spec : {M : Type 1} → statement M
-put_line_spec = tie.close (tie.spec put-head-requires put-byte-requires same_length returns)
+put_line_spec =
+    tie.close
+    (tie.spec
+    put_head-a-requires
+    put_byte-requires
+    shape_of-out
+    returns)

@@ -3,17 +3,23 @@ use borrow.Author.Rules.{rules}
 use Rattle.text.proofs.put_spaced_hex.Statement.{statement}
 use Rattle.text.proofs.put_spaced_hex.Tie as tie
 
-put-byte-requires : tie.Need-put-byte-requires
-put-byte-requires c κs = search rules
+put_byte-a-requires : tie.Need-put_byte-a-requires
+put_byte-a-requires c κs = search rules
 
-put-hex-requires : tie.Need-put-hex-requires
-put-hex-requires c κs = search rules
+put_hex-requires : tie.Need-put_hex-requires
+put_hex-requires c κs = search rules
 
-same_length : tie.Need-same-length
-same_length c = search rules
+shape_of-out : tie.Need-shape_of-out
+shape_of-out c = search rules
 
 returns : tie.Need-returns
-returns c = puts-append c.before.before.before.before.before.before.put_byte.ensures c.before.before.put-hex.ensures
+returns c = puts-append c.put_byte-a.ensures c.put_hex.ensures
 
 pub put_spaced_hex_spec : {M : Type 1} → statement M
-put_spaced_hex_spec = tie.close (tie.spec put-byte-requires put-hex-requires same_length returns)
+put_spaced_hex_spec =
+    tie.close
+    (tie.spec
+    put_byte-a-requires
+    put_hex-requires
+    shape_of-out
+    returns)

@@ -5,31 +5,31 @@ use borrow.Author.Rules.{rules}
 use Rattle.text.proofs.put_unknown.Statement.{statement}
 use Rattle.text.proofs.put_unknown.Tie as tie
 
-put-byte-requires : tie.Need-put-byte-requires
-put-byte-requires c κs = search rules
+put_byte-a-requires : tie.Need-put_byte-a-requires
+put_byte-a-requires c κs = search rules
 
-put-byte-requires-2 : tie.Need-put-byte-requires-2
-put-byte-requires-2 c κs = search rules
+put_byte-b-requires : tie.Need-put_byte-b-requires
+put_byte-b-requires c κs = search rules
 
-put-fields-requires : tie.Need-put-fields-requires
-put-fields-requires c κs = search rules
+put_fields-c-requires : tie.Need-put_fields-c-requires
+put_fields-c-requires c κs = search rules
 
-put-byte-requires-3 : tie.Need-put-byte-requires-3
-put-byte-requires-3 c κs = omega (arith, c.before.before.before.before.before.before.before.before.before.before.before.put_byte.ensures.ends, c.before.before.before.before.before.before.before.put-byte2.ensures.ends, c.before.before.before.put-fields.ensures.ends, c.before.before.before.before.before.before.before.before.before.before.before.put_byte.ensures.size, c.before.before.before.before.before.before.before.put-byte2.ensures.size, c.before.before.before.put-fields.ensures.size, length_fields 4 0 c.before.before.before.before.before.before.before.before.before.before.before.before.before.before.args.used)
+put_byte-requires : tie.Need-put_byte-requires
+put_byte-requires c κs = omega (arith, c.put_byte-a.ensures.ends, c.put_byte-b.ensures.ends, c.put_fields-c.ensures.ends, c.put_byte-a.ensures.size, c.put_byte-b.ensures.size, c.put_fields-c.ensures.size, length_fields 4 0 c.args.used)
 
-same_length : tie.Need-same-length
-same_length c = search rules
+shape_of-out : tie.Need-shape_of-out
+shape_of-out c = search rules
 
 returns : tie.Need-returns
-returns c = puts_line (63 ∷ 63 ∷ []) 4 0 c.before.before.before.before.before.before.before.before.before.before.before.before.before.before.before.before.before.args.used (puts_head (63 ∷ 63 ∷ []) 4 0 c.before.before.before.before.before.before.before.before.before.before.before.before.before.before.before.before.before.args.used (puts-append c.before.before.before.before.before.before.before.before.before.before.before.before.before.before.put_byte.ensures c.before.before.before.before.before.before.before.before.before.before.put-byte2.ensures) c.before.before.before.before.before.before.put-fields.ensures) c.before.before.put-byte3.ensures
+returns c = puts_line (63 ∷ 63 ∷ []) 4 0 c.args.used (puts_head (63 ∷ 63 ∷ []) 4 0 c.args.used (puts-append c.put_byte-a.ensures c.put_byte-b.ensures) c.put_fields-c.ensures) c.put_byte.ensures
 
 pub put_unknown_spec : {M : Type 1} → statement M
 put_unknown_spec =
     tie.close
     (tie.spec
-    put-byte-requires
-    put-byte-requires-2
-    put-fields-requires
-    put-byte-requires-3
-    same_length
+    put_byte-a-requires
+    put_byte-b-requires
+    put_fields-c-requires
+    put_byte-requires
+    shape_of-out
     returns)

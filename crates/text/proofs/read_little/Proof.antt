@@ -4,41 +4,41 @@ use Rattle.text.proofs.LittleLaws.{Reading, reading-start, reading_step, reading
 use Rattle.text.proofs.read_little.Statement.{statement}
 use Rattle.text.proofs.read_little.Tie as tie
 
-abbrev invariant_loop : tie.invariant_loop
+abbrev invariant_loop : tie.invariant-loop-i
 invariant_loop bytes at n x₀ i₀ x i = Reading bytes at n x i
 
-abbrev decreases_loop : tie.decreases_loop
+abbrev decreases_loop : tie.decreases-loop-i
 decreases_loop bytes at n x₀ i₀ x i = i
 
-loop-holds : tie.Need-loop-init invariant_loop decreases_loop
-loop-holds c = reading-start c.args.bytes.now c.args.at c.args.n
+loop-i-init : tie.Need-loop-i-init invariant_loop decreases_loop
+loop-i-init c = reading-start c.args.bytes.now c.args.at c.args.n
 
-sub-i : tie.Need-overflow-sub-i invariant_loop decreases_loop
-sub-i c = omega arith
+overflow_sub-i : tie.Need-overflow_sub-i invariant_loop decreases_loop
+overflow_sub-i c = omega arith
 
-mul-x : tie.Need-overflow-mul-x invariant_loop decreases_loop
-mul-x c = omega (arith, reading-fits c.before.before.args.bytes.now c.before.before.args.at c.before.before.args.n c.before.loop.x c.before.loop.i c.before.loop.invariant c.loop-test.true c.before.before.requires.0)
+overflow_mul-x : tie.Need-overflow_mul-x invariant_loop decreases_loop
+overflow_mul-x c = omega (arith, reading-fits c.args.bytes.now c.args.at c.args.n c.loop-i.x c.loop-i.i c.loop-i.invariant c.loop-i-test.true c.requires.0)
 
-add-x : tie.Need-overflow-add-x invariant_loop decreases_loop
-add-x c = omega (arith, c.before.loop.invariant.inside)
+overflow_add-x : tie.Need-overflow_add-x invariant_loop decreases_loop
+overflow_add-x c = omega (arith, c.loop-i.invariant.inside)
 
-shared-slice-read-x : tie.Need-shared-slice-read-x invariant_loop decreases_loop
-shared-slice-read-x c = omega (arith, c.before.before.loop.invariant.inside)
+bounds-bytes-at : tie.Need-bounds-bytes-at invariant_loop decreases_loop
+bounds-bytes-at c = omega (arith, c.loop-i.invariant.inside)
 
-cast-x : tie.Need-overflow-cast-x invariant_loop decreases_loop
-cast-x c = omega (arith, c.shared-slice-known.given (c.before.before.before.args.at + (c.before.before.loop.i - 1)))
+overflow_cast-x : tie.Need-overflow_cast-x invariant_loop decreases_loop
+overflow_cast-x c = omega (arith, c.shared_slice_known-1.given (c.args.at + (c.loop-i.i - 1)))
 
-add-x-2 : tie.Need-overflow-add-x-2 invariant_loop decreases_loop
-add-x-2 c = omega (arith, reading-fits c.before.before.before.args.bytes.now c.before.before.before.args.at c.before.before.before.args.n c.before.before.loop.x c.before.before.loop.i c.before.before.loop.invariant c.before.loop-test.true c.before.before.before.requires.0, c.shared-slice-known.given (c.before.before.before.args.at + (c.before.before.loop.i - 1)))
+overflow_add-x-in-loop-i : tie.Need-overflow_add-x-in-loop-i invariant_loop decreases_loop
+overflow_add-x-in-loop-i c = omega (arith, reading-fits c.args.bytes.now c.args.at c.args.n c.loop-i.x c.loop-i.i c.loop-i.invariant c.loop-i-test.true c.requires.0, c.shared_slice_known-1.given (c.args.at + (c.loop-i.i - 1)))
 
-loop-less : tie.Need-loop-smaller invariant_loop decreases_loop
-loop-less c = omega arith
+loop-i-smaller : tie.Need-loop-i-smaller invariant_loop decreases_loop
+loop-i-smaller c = omega arith
 
-loop-again : tie.Need-loop-preserved invariant_loop decreases_loop
-loop-again c = reading_step c.before.before.before.args.bytes.now c.before.before.before.args.at c.before.before.before.args.n c.before.before.loop.x c.before.before.loop.i c.before.before.loop.invariant c.before.loop-test.true c.before.before.before.requires.1 (omega (arith, c.shared-slice-known.given (c.before.before.before.args.at + (c.before.before.loop.i - 1))))
+loop-i-preserved : tie.Need-loop-i-preserved invariant_loop decreases_loop
+loop-i-preserved c = reading_step c.args.bytes.now c.args.at c.args.n c.loop-i.x c.loop-i.i c.loop-i.invariant c.loop-i-test.true c.requires.1 (omega (arith, c.shared_slice_known-1.given (c.args.at + (c.loop-i.i - 1))))
 
 returns : tie.Need-returns invariant_loop decreases_loop
-returns c = reading-end c.before.before.args.bytes.now c.before.before.args.at c.before.before.args.n c.before.loop.x c.before.loop.i c.before.loop.invariant (omega arith)
+returns c = reading-end c.args.bytes.now c.args.at c.args.n c.loop-i.x c.loop-i.i c.loop-i.invariant (omega arith)
 
 pub read_little_spec : {M : Type 1} → statement M
 read_little_spec =
@@ -46,13 +46,13 @@ read_little_spec =
     (tie.spec
     invariant_loop
     decreases_loop
-    loop-holds
-    sub-i
-    mul-x
-    add-x
-    shared-slice-read-x
-    cast-x
-    add-x-2
-    loop-less
-    loop-again
+    loop-i-init
+    overflow_sub-i
+    overflow_mul-x
+    overflow_add-x
+    bounds-bytes-at
+    overflow_cast-x
+    overflow_add-x-in-loop-i
+    loop-i-smaller
+    loop-i-preserved
     returns)

@@ -7,124 +7,116 @@ use borrow.Author.Rules.{rules}
 use Rattle.commands.proofs.changes.change_group.Statement.{statement}
 use Rattle.commands.proofs.changes.change_group.Tie as tie
 
-new-call-requires : tie.Need-new-call-requires
-new-call-requires c κs = search rules
+new_call-requires : tie.Need-new_call-requires
+new_call-requires c κs = search rules
 
-store-call-requires : tie.Need-store-call-requires
-store-call-requires c κs = search rules
+store_call-requires : tie.Need-store_call-requires
+store_call-requires c κs = search rules
 
-grow-call-requires : tie.Need-grow-call-requires
-grow-call-requires c κs = search rules
+grow_call-requires : tie.Need-grow_call-requires
+grow_call-requires c κs = search rules
 
-map-change-requires : tie.Need-map-change-requires
-map-change-requires c κs = search rules
+map_change-requires : tie.Need-map_change-requires
+map_change-requires c κs = search rules
 
-same_length : tie.Need-same-length
-same_length c = search rules
+shape_of-slots-in-10 : tie.Need-shape_of-slots-in-10
+shape_of-slots-in-10 c = search rules
 
-same-length-2 : tie.Need-same-length-2
-same-length-2 c = search rules
+shape_of-scalars-in-10 : tie.Need-shape_of-scalars-in-10
+shape_of-scalars-in-10 c = search rules
 
-same-length-3 : tie.Need-same-length-3
-same-length-3 c = search rules
+shape_of-directory-in-10 : tie.Need-shape_of-directory-in-10
+shape_of-directory-in-10 c = search rules
 
-same-length-4 : tie.Need-same-length-4
-same-length-4 c = search rules
+shape_of-cells-in-10 : tie.Need-shape_of-cells-in-10
+shape_of-cells-in-10 c = search rules
 
-returns : tie.Need-returns
+returns-in-10 : tie.Need-returns-in-10
 unfolding change_rows
-returns c =
-    let at_call : tie.After-new-call = search in
-    let at_key : tie.At-match-keys1 = search in
-    rw at_key.match.keys1 at_call.new-call.ensures
+returns-in-10 c =
+    rw c.in-10.is c.new_call.ensures
 
-same-length-5 : tie.Need-same-length-5
-same-length-5 c = search rules
+shape_of-slots-in-11 : tie.Need-shape_of-slots-in-11
+shape_of-slots-in-11 c = search rules
 
-same-length-6 : tie.Need-same-length-6
-same-length-6 c = search rules
+shape_of-scalars-in-11 : tie.Need-shape_of-scalars-in-11
+shape_of-scalars-in-11 c = search rules
 
-same-length-7 : tie.Need-same-length-7
-same-length-7 c = search rules
+shape_of-directory-in-11 : tie.Need-shape_of-directory-in-11
+shape_of-directory-in-11 c = search rules
 
-same-length-8 : tie.Need-same-length-8
-same-length-8 c = search rules
+shape_of-cells-in-11 : tie.Need-shape_of-cells-in-11
+shape_of-cells-in-11 c = search rules
 
-returns-2 : tie.Need-returns-2
+returns-in-11 : tie.Need-returns-in-11
 unfolding change_rows
-returns-2 c =
-    let at_call : tie.After-store-call = search in
-    let at_key : tie.At-match-keys2 = search in
-    rw at_key.match.keys2 at_call.store-call.ensures
+returns-in-11 c =
+    rw c.in-11.is c.store_call.ensures
 
-same-length-9 : tie.Need-same-length-9
-same-length-9 c = search rules
+shape_of-slots-in-12 : tie.Need-shape_of-slots-in-12
+shape_of-slots-in-12 c = search rules
 
-same-length-10 : tie.Need-same-length-10
-same-length-10 c = search rules
+shape_of-scalars-in-12 : tie.Need-shape_of-scalars-in-12
+shape_of-scalars-in-12 c = search rules
 
-same-length-11 : tie.Need-same-length-11
-same-length-11 c = search rules
+shape_of-directory-in-12 : tie.Need-shape_of-directory-in-12
+shape_of-directory-in-12 c = search rules
 
-same-length-12 : tie.Need-same-length-12
-same-length-12 c = search rules
+shape_of-cells-in-12 : tie.Need-shape_of-cells-in-12
+shape_of-cells-in-12 c = search rules
 
-returns-3 : tie.Need-returns-3
+returns-in-12 : tie.Need-returns-in-12
 unfolding change_rows
-returns-3 c =
-    let at_call : tie.After-grow-call = search in
-    let at_key : tie.At-match-keys3 = search in
-    rw at_key.match.keys3 at_call.grow-call.ensures
+returns-in-12 c =
+    rw c.in-12.is c.grow_call.ensures
 
-same-length-13 : tie.Need-same-length-13
-same-length-13 c = search rules
+shape_of-slots-in-13 : tie.Need-shape_of-slots-in-13
+shape_of-slots-in-13 c = search rules
 
-same-length-14 : tie.Need-same-length-14
-same-length-14 c = search rules
+shape_of-scalars-in-13 : tie.Need-shape_of-scalars-in-13
+shape_of-scalars-in-13 c = search rules
 
-same-length-15 : tie.Need-same-length-15
-same-length-15 c = search rules
+shape_of-directory-in-13 : tie.Need-shape_of-directory-in-13
+shape_of-directory-in-13 c = search rules
 
-same-length-16 : tie.Need-same-length-16
-same-length-16 c = search rules
+shape_of-cells-in-13 : tie.Need-shape_of-cells-in-13
+shape_of-cells-in-13 c = search rules
 
-returns-4 : tie.Need-returns-4
+returns-in-13 : tie.Need-returns-in-13
 unfolding change_rows
-returns-4 c =
-    let at_call : tie.After-map-change = search in
-    let at_key : tie.At-match-keys4 = search in
-    rw at_key.match.keys4 at_call.map-change.ensures
+returns-in-13 c =
+    rw c.in-13.is c.map_change.ensures
 
-returns-5 : tie.Need-returns-5
+returns-in_default : tie.Need-returns-in_default
 unfolding change_rows act_in choose
-returns-5 c = rw (eqb_no _ 10 c.match.rest.0.0.0.1, eqb_no _ 11 c.match.rest.0.0.1, eqb_no _ 12 c.match.rest.0.1, eqb_no _ 13 c.match.rest.1) (λ t. changed-unknown refl)
+returns-in_default c = rw (eqb_no _ 10 c.in_default.in_default-own.rest.0.0.0.1, eqb_no _ 11 c.in_default.in_default-own.rest.0.0.1, eqb_no _ 12 c.in_default.in_default-own.rest.0.1, eqb_no _ 13 c.in_default.in_default-own.rest.1) (λ t. changed-unknown refl)
 
 pub change_group_spec : {M : Type 1} → statement M
 change_group_spec =
     tie.close
     (tie.spec
-    new-call-requires
-    store-call-requires
-    grow-call-requires
-    map-change-requires
-    same_length
-    same-length-2
-    same-length-3
-    same-length-4
-    returns
-    same-length-5
-    same-length-6
-    same-length-7
-    same-length-8
-    returns-2
-    same-length-9
-    same-length-10
-    same-length-11
-    same-length-12
-    returns-3
-    same-length-13
-    same-length-14
-    same-length-15
-    same-length-16
-    returns-4
-    returns-5)
+    new_call-requires
+    store_call-requires
+    grow_call-requires
+    map_change-requires
+    shape_of-slots-in-10
+    shape_of-scalars-in-10
+    shape_of-directory-in-10
+    shape_of-cells-in-10
+    returns-in-10
+    shape_of-slots-in-11
+    shape_of-scalars-in-11
+    shape_of-directory-in-11
+    shape_of-cells-in-11
+    returns-in-11
+    shape_of-slots-in-12
+    shape_of-scalars-in-12
+    shape_of-directory-in-12
+    shape_of-cells-in-12
+    returns-in-12
+    shape_of-slots-in-13
+    shape_of-scalars-in-13
+    shape_of-directory-in-13
+    shape_of-cells-in-13
+    returns-in-13
+    returns-in_default)

@@ -4,15 +4,15 @@ use borrow.Author.Rules.{rules}
 use Rattle.commands.proofs.changes.collected_turn.Statement.{statement}
 use Rattle.commands.proofs.changes.collected_turn.Tie as tie
 
-collected-requires : tie.Need-collected-requires
-collected-requires c κs = search rules
+collected-s-requires : tie.Need-collected-s-requires
+collected-s-requires c κs = search rules
 
 returns : tie.Need-returns
-returns c = λ places. turn_is c.before.before.args.m.heap (collection_is c.before.before.args.m.answer places) (c.collected.ensures places)
+returns c = λ places. turn_is c.args.m.heap (collection_is c.args.m.answer places) (c.collected-s.ensures places)
 
 pub collected_turn_spec : {M : Type 1} → statement M
 collected_turn_spec =
     tie.close
     (tie.spec
-    collected-requires
+    collected-s-requires
     returns)

@@ -8,131 +8,123 @@ use borrow.Author.Rules.{rules}
 use Rattle.commands.proofs.changes.lent_call.Statement.{statement}
 use Rattle.commands.proofs.changes.lent_call.Tie as tie
 
-collect-requires : tie.Need-collect-requires
-collect-requires c κs =
-    let start : tie.Start = search in
-    (start.pre.good, (start.pre.tabled, start.pre.rested))
+collect-k-requires : tie.Need-collect-k-requires
+collect-k-requires c κs =
+    (c.requires.good, (c.requires.tabled, c.requires.rested))
 
-collected-turn-requires : tie.Need-collected-turn-requires
-collected-turn-requires c κs = search rules
+collected_turn-requires : tie.Need-collected_turn-requires
+collected_turn-requires c κs = search rules
 
-collect-requires-2 : tie.Need-collect-requires-2
-collect-requires-2 c κs =
-    let start : tie.Start = search in
-    (start.pre.good, (start.pre.tabled, start.pre.rested))
+collect-k-requires-in-15 : tie.Need-collect-k-requires-in-15
+collect-k-requires-in-15 c κs =
+    (c.requires.good, (c.requires.tabled, c.requires.rested))
 
-collected-turn-requires-2 : tie.Need-collected-turn-requires-2
-collected-turn-requires-2 c κs = search rules
+collected_turn-requires-in-15 : tie.Need-collected_turn-requires-in-15
+collected_turn-requires-in-15 c κs = search rules
 
-read-string-requires : tie.Need-read-string-requires
-read-string-requires c κs = search rules
+read_string-r-requires : tie.Need-read_string-r-requires
+read_string-r-requires c κs = search rules
 
-reading-turn-requires : tie.Need-reading-turn-requires
-reading-turn-requires c κs = search rules
+reading_turn-requires : tie.Need-reading_turn-requires
+reading_turn-requires c κs = search rules
 
-same_length : tie.Need-same-length
-same_length c = search rules
+shape_of-slots-in-12 : tie.Need-shape_of-slots-in-12
+shape_of-slots-in-12 c = search rules
 
-same-length-2 : tie.Need-same-length-2
-same-length-2 c = search rules
+shape_of-scalars-in-12 : tie.Need-shape_of-scalars-in-12
+shape_of-scalars-in-12 c = search rules
 
-same-length-3 : tie.Need-same-length-3
-same-length-3 c = search rules
+shape_of-list-in-12 : tie.Need-shape_of-list-in-12
+shape_of-list-in-12 c = search rules
 
-same-length-4 : tie.Need-same-length-4
-same-length-4 c = search rules
+shape_of-marks-in-12 : tie.Need-shape_of-marks-in-12
+shape_of-marks-in-12 c = search rules
 
-same-length-5 : tie.Need-same-length-5
-same-length-5 c = search rules
+shape_of-order-in-12 : tie.Need-shape_of-order-in-12
+shape_of-order-in-12 c = search rules
 
-same-length-6 : tie.Need-same-length-6
-same-length-6 c = search rules
+shape_of-places-in-12 : tie.Need-shape_of-places-in-12
+shape_of-places-in-12 c = search rules
 
-returns : tie.Need-returns
+returns-in-12 : tie.Need-returns-in-12
 unfolding act_in choose lent_rows
-returns c =
-    let at-collect : tie.After-collect = search in
-    let at_key : tie.At-match-keys1 = search in
-    rw at_key.match.keys1
-    (λ frames. turn_collected _ at-collect.collect.result.answer _ (roots_given memory_0_c) refl at-collect.collect.ensures.0 (c.collected-turn.ensures _), at-collect.collect.ensures.1)
+returns-in-12 c =
+    rw c.in-12.is
+    (λ frames. turn_collected _ c.collect-k.result.answer _ (roots_given memory_0_c) refl c.collect-k.ensures.0 (c.collected_turn.ensures _), c.collect-k.ensures.1)
 
-same-length-7 : tie.Need-same-length-7
-same-length-7 c = search rules
+shape_of-slots-in-15 : tie.Need-shape_of-slots-in-15
+shape_of-slots-in-15 c = search rules
 
-same-length-8 : tie.Need-same-length-8
-same-length-8 c = search rules
+shape_of-scalars-in-15 : tie.Need-shape_of-scalars-in-15
+shape_of-scalars-in-15 c = search rules
 
-same-length-9 : tie.Need-same-length-9
-same-length-9 c = search rules
+shape_of-list-in-15 : tie.Need-shape_of-list-in-15
+shape_of-list-in-15 c = search rules
 
-same-length-10 : tie.Need-same-length-10
-same-length-10 c = search rules
+shape_of-marks-in-15 : tie.Need-shape_of-marks-in-15
+shape_of-marks-in-15 c = search rules
 
-same-length-11 : tie.Need-same-length-11
-same-length-11 c = search rules
+shape_of-order-in-15 : tie.Need-shape_of-order-in-15
+shape_of-order-in-15 c = search rules
 
-same-length-12 : tie.Need-same-length-12
-same-length-12 c = search rules
+shape_of-places-in-15 : tie.Need-shape_of-places-in-15
+shape_of-places-in-15 c = search rules
 
-returns-2 : tie.Need-returns-2
+returns-in-15 : tie.Need-returns-in-15
 unfolding act_in choose lent_rows
-returns-2 c =
-    let at-collect : tie.After-collect2 = search in
-    let at_key : tie.At-match-keys2 = search in
-    rw at_key.match.keys2
-    (λ frames. turn_collected _ at-collect.collect2.result.answer _ (places_given memory_0_f) refl at-collect.collect2.ensures.0 (c.collected-turn2.ensures _), at-collect.collect2.ensures.1)
+returns-in-15 c =
+    rw c.in-15.is
+    (λ frames. turn_collected _ c.collect-k-in-15.result.answer _ (places_given memory_0_f) refl c.collect-k-in-15.ensures.0 (c.collected_turn-in-15.ensures _), c.collect-k-in-15.ensures.1)
 
-same-length-13 : tie.Need-same-length-13
-same-length-13 c = search rules
+shape_of-slots-in-38 : tie.Need-shape_of-slots-in-38
+shape_of-slots-in-38 c = search rules
 
-same-length-14 : tie.Need-same-length-14
-same-length-14 c = search rules
+shape_of-scalars-in-38 : tie.Need-shape_of-scalars-in-38
+shape_of-scalars-in-38 c = search rules
 
-same-length-15 : tie.Need-same-length-15
-same-length-15 c = search rules
+shape_of-list-in-38 : tie.Need-shape_of-list-in-38
+shape_of-list-in-38 c = search rules
 
-same-length-16 : tie.Need-same-length-16
-same-length-16 c = search rules
+shape_of-bytes : tie.Need-shape_of-bytes
+shape_of-bytes c = search rules
 
-returns-3 : tie.Need-returns-3
+returns-in-38 : tie.Need-returns-in-38
 unfolding act_in choose lent_rows
-returns-3 c =
-    let at_read : tie.After-read-string = search in
-    let at_key : tie.At-match-keys3 = search in
-    rw at_key.match.keys3
-    (λ frames. turn_string _ at_read.read_string.result _ memory_26 refl (at_read.read_string.ensures _) c.reading-turn.ensures, (refl, refl))
+returns-in-38 c =
+    rw c.in-38.is
+    (λ frames. turn_string _ c.read_string-r.result _ memory_26 refl (c.read_string-r.ensures _) c.reading_turn.ensures, (refl, refl))
 
-returns-4 : tie.Need-returns-4
+returns-in_default : tie.Need-returns-in_default
 unfolding lent_rows
-returns-4 c = (λ frames. commanded-unknown (no_row lent_rows _ _ _ c.match.rest), (refl, refl))
+returns-in_default c = (λ frames. commanded-unknown (no_row lent_rows _ _ _ c.in_default.in_default-own.rest), (refl, refl))
 
 pub lent_call_spec : {M : Type 1} → statement M
 lent_call_spec =
     tie.close
     (tie.spec
-    collect-requires
-    collected-turn-requires
-    collect-requires-2
-    collected-turn-requires-2
-    read-string-requires
-    reading-turn-requires
-    same_length
-    same-length-2
-    same-length-3
-    same-length-4
-    same-length-5
-    same-length-6
-    returns
-    same-length-7
-    same-length-8
-    same-length-9
-    same-length-10
-    same-length-11
-    same-length-12
-    returns-2
-    same-length-13
-    same-length-14
-    same-length-15
-    same-length-16
-    returns-3
-    returns-4)
+    collect-k-requires
+    collected_turn-requires
+    collect-k-requires-in-15
+    collected_turn-requires-in-15
+    read_string-r-requires
+    reading_turn-requires
+    shape_of-slots-in-12
+    shape_of-scalars-in-12
+    shape_of-list-in-12
+    shape_of-marks-in-12
+    shape_of-order-in-12
+    shape_of-places-in-12
+    returns-in-12
+    shape_of-slots-in-15
+    shape_of-scalars-in-15
+    shape_of-list-in-15
+    shape_of-marks-in-15
+    shape_of-order-in-15
+    shape_of-places-in-15
+    returns-in-15
+    shape_of-slots-in-38
+    shape_of-scalars-in-38
+    shape_of-list-in-38
+    shape_of-bytes
+    returns-in-38
+    returns-in_default)

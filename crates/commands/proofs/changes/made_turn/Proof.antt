@@ -4,11 +4,15 @@ use borrow.Author.Rules.{rules}
 use Rattle.commands.proofs.changes.made_turn.Statement.{statement}
 use Rattle.commands.proofs.changes.made_turn.Tie as tie
 
-made-requires : tie.Need-made-requires
-made-requires c κs = search rules
+made-s-requires : tie.Need-made-s-requires
+made-s-requires c κs = search rules
 
 returns : tie.Need-returns
-returns c = turn_is c.before.before.args.m.heap (made_is c.before.before.args.m.answer) c.made.ensures
+returns c = turn_is c.args.m.heap (made_is c.args.m.answer) c.made-s.ensures
 
 pub made_turn_spec : {M : Type 1} → statement M
-made_turn_spec = tie.close (tie.spec made-requires returns)
+made_turn_spec =
+    tie.close
+    (tie.spec
+    made-s-requires
+    returns)

@@ -4,11 +4,15 @@ use borrow.Author.Rules.{rules}
 use Rattle.commands.proofs.changes.perhaps_turn.Statement.{statement}
 use Rattle.commands.proofs.changes.perhaps_turn.Tie as tie
 
-perhaps-requires : tie.Need-perhaps-requires
-perhaps-requires c κs = search rules
+perhaps-s-requires : tie.Need-perhaps-s-requires
+perhaps-s-requires c κs = search rules
 
 returns : tie.Need-returns
-returns c = turn_is (c.before.args.heap) (perhaps_is (c.before.args.a)) c.perhaps.ensures
+returns c = turn_is c.args.heap (perhaps_is c.args.a) c.perhaps-s.ensures
 
 pub perhaps_turn_spec : {M : Type 1} → statement M
-perhaps_turn_spec = tie.close (tie.spec perhaps-requires returns)
+perhaps_turn_spec =
+    tie.close
+    (tie.spec
+    perhaps-s-requires
+    returns)

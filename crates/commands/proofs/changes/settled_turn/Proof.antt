@@ -4,11 +4,15 @@ use borrow.Author.Rules.{rules}
 use Rattle.commands.proofs.changes.settled_turn.Statement.{statement}
 use Rattle.commands.proofs.changes.settled_turn.Tie as tie
 
-done-requires : tie.Need-done-requires
-done-requires c κs = search rules
+done-s-requires : tie.Need-done-s-requires
+done-s-requires c κs = search rules
 
 returns : tie.Need-returns
-returns c = turn_is c.before.before.args.m.heap (done_is c.before.before.args.m.done) c.done.ensures
+returns c = turn_is c.args.m.heap (done_is c.args.m.done) c.done-s.ensures
 
 pub settled_turn_spec : {M : Type 1} → statement M
-settled_turn_spec = tie.close (tie.spec done-requires returns)
+settled_turn_spec =
+    tie.close
+    (tie.spec
+    done-s-requires
+    returns)

@@ -8,224 +8,216 @@ use borrow.Author.Rules.{rules}
 use Rattle.commands.proofs.changes.store_call.Statement.{statement}
 use Rattle.commands.proofs.changes.store_call.Tie as tie
 
-store-item-requires : tie.Need-store-item-requires
-store-item-requires c κs = search rules
+store_item-r-requires : tie.Need-store_item-r-requires
+store_item-r-requires c κs = search rules
 
-done-turn-requires : tie.Need-done-turn-requires
-done-turn-requires c κs = search rules
+done_turn-requires : tie.Need-done_turn-requires
+done_turn-requires c κs = search rules
 
-store-box-requires : tie.Need-store-box-requires
-store-box-requires c κs = search rules
+store_box-r-requires : tie.Need-store_box-r-requires
+store_box-r-requires c κs = search rules
 
-done-turn-requires-2 : tie.Need-done-turn-requires-2
-done-turn-requires-2 c κs = search rules
+done_turn-requires-in-21 : tie.Need-done_turn-requires-in-21
+done_turn-requires-in-21 c κs = search rules
 
-store-cell-requires : tie.Need-store-cell-requires
-store-cell-requires c κs = search rules
+store_cell-r-requires : tie.Need-store_cell-r-requires
+store_cell-r-requires c κs = search rules
 
-done-turn-requires-3 : tie.Need-done-turn-requires-3
-done-turn-requires-3 c κs = search rules
+done_turn-requires-in-23 : tie.Need-done_turn-requires-in-23
+done_turn-requires-in-23 c κs = search rules
 
-store-field-requires : tie.Need-store-field-requires
-store-field-requires c κs = search rules
+store_field-r-requires : tie.Need-store_field-r-requires
+store_field-r-requires c κs = search rules
 
-done-turn-requires-4 : tie.Need-done-turn-requires-4
-done-turn-requires-4 c κs = search rules
+done_turn-requires-in-25 : tie.Need-done_turn-requires-in-25
+done_turn-requires-in-25 c κs = search rules
 
-store-capture-requires : tie.Need-store-capture-requires
-store-capture-requires c κs = search rules
+store_capture-r-requires : tie.Need-store_capture-r-requires
+store_capture-r-requires c κs = search rules
 
-done-turn-requires-5 : tie.Need-done-turn-requires-5
-done-turn-requires-5 c κs = search rules
+done_turn-requires-in-27 : tie.Need-done_turn-requires-in-27
+done_turn-requires-in-27 c κs = search rules
 
-store-register-requires : tie.Need-store-register-requires
-store-register-requires c κs = search rules
+store_register-r-requires : tie.Need-store_register-r-requires
+store_register-r-requires c κs = search rules
 
-done-turn-requires-6 : tie.Need-done-turn-requires-6
-done-turn-requires-6 c κs = search rules
+done_turn-requires-in-29 : tie.Need-done_turn-requires-in-29
+done_turn-requires-in-29 c κs = search rules
 
-set-state-requires : tie.Need-set-state-requires
-set-state-requires c κs = search rules
+set_state-r-requires : tie.Need-set_state-r-requires
+set_state-r-requires c κs = search rules
 
-done-turn-requires-7 : tie.Need-done-turn-requires-7
-done-turn-requires-7 c κs = search rules
+done_turn-requires-in-31 : tie.Need-done_turn-requires-in-31
+done_turn-requires-in-31 c κs = search rules
 
-part-store-requires : tie.Need-part-store-requires
-part-store-requires c κs = search rules
+part_store-requires : tie.Need-part_store-requires
+part_store-requires c κs = search rules
 
-same_length : tie.Need-same-length
-same_length c = search rules
+shape_of-slots-in-18 : tie.Need-shape_of-slots-in-18
+shape_of-slots-in-18 c = search rules
 
-same-length-2 : tie.Need-same-length-2
-same-length-2 c = search rules
+shape_of-scalars-in-18 : tie.Need-shape_of-scalars-in-18
+shape_of-scalars-in-18 c = search rules
 
-same-length-3 : tie.Need-same-length-3
-same-length-3 c = search rules
+shape_of-cells-in-18 : tie.Need-shape_of-cells-in-18
+shape_of-cells-in-18 c = search rules
 
-returns : tie.Need-returns
+returns-in-18 : tie.Need-returns-in-18
 unfolding act_in choose store_rows
-returns c =
-    let at_key : tie.At-match-keys1 = search in
-    rw at_key.match.keys1 (λ t. turn_known refl c.before.before.before.store_item.ensures c.done-turn.ensures)
+returns-in-18 c =
+    rw c.in-18.is (λ t. turn_known refl c.store_item-r.ensures c.done_turn.ensures)
 
-same-length-4 : tie.Need-same-length-4
-same-length-4 c = search rules
+shape_of-slots-in-21 : tie.Need-shape_of-slots-in-21
+shape_of-slots-in-21 c = search rules
 
-same-length-5 : tie.Need-same-length-5
-same-length-5 c = search rules
+shape_of-scalars-in-21 : tie.Need-shape_of-scalars-in-21
+shape_of-scalars-in-21 c = search rules
 
-same-length-6 : tie.Need-same-length-6
-same-length-6 c = search rules
+shape_of-cells-in-21 : tie.Need-shape_of-cells-in-21
+shape_of-cells-in-21 c = search rules
 
-returns-2 : tie.Need-returns-2
+returns-in-21 : tie.Need-returns-in-21
 unfolding act_in choose store_rows
-returns-2 c =
-    let at_key : tie.At-match-keys2 = search in
-    rw at_key.match.keys2 (λ t. turn_known refl c.before.before.before.store_box.ensures c.done-turn2.ensures)
+returns-in-21 c =
+    rw c.in-21.is (λ t. turn_known refl c.store_box-r.ensures c.done_turn-in-21.ensures)
 
-same-length-7 : tie.Need-same-length-7
-same-length-7 c = search rules
+shape_of-slots-in-23 : tie.Need-shape_of-slots-in-23
+shape_of-slots-in-23 c = search rules
 
-same-length-8 : tie.Need-same-length-8
-same-length-8 c = search rules
+shape_of-scalars-in-23 : tie.Need-shape_of-scalars-in-23
+shape_of-scalars-in-23 c = search rules
 
-same-length-9 : tie.Need-same-length-9
-same-length-9 c = search rules
+shape_of-cells-in-23 : tie.Need-shape_of-cells-in-23
+shape_of-cells-in-23 c = search rules
 
-returns-3 : tie.Need-returns-3
+returns-in-23 : tie.Need-returns-in-23
 unfolding act_in choose store_rows
-returns-3 c =
-    let at_key : tie.At-match-keys3 = search in
-    rw at_key.match.keys3 (λ t. turn_known refl c.before.before.before.store_cell.ensures c.done-turn3.ensures)
+returns-in-23 c =
+    rw c.in-23.is (λ t. turn_known refl c.store_cell-r.ensures c.done_turn-in-23.ensures)
 
-same-length-10 : tie.Need-same-length-10
-same-length-10 c = search rules
+shape_of-slots-in-25 : tie.Need-shape_of-slots-in-25
+shape_of-slots-in-25 c = search rules
 
-same-length-11 : tie.Need-same-length-11
-same-length-11 c = search rules
+shape_of-scalars-in-25 : tie.Need-shape_of-scalars-in-25
+shape_of-scalars-in-25 c = search rules
 
-same-length-12 : tie.Need-same-length-12
-same-length-12 c = search rules
+shape_of-cells-in-25 : tie.Need-shape_of-cells-in-25
+shape_of-cells-in-25 c = search rules
 
-returns-4 : tie.Need-returns-4
+returns-in-25 : tie.Need-returns-in-25
 unfolding act_in choose store_rows
-returns-4 c =
-    let at_key : tie.At-match-keys4 = search in
-    rw at_key.match.keys4 (λ t. turn_known refl c.before.before.before.store_field.ensures c.done-turn4.ensures)
+returns-in-25 c =
+    rw c.in-25.is (λ t. turn_known refl c.store_field-r.ensures c.done_turn-in-25.ensures)
 
-same-length-13 : tie.Need-same-length-13
-same-length-13 c = search rules
+shape_of-slots-in-27 : tie.Need-shape_of-slots-in-27
+shape_of-slots-in-27 c = search rules
 
-same-length-14 : tie.Need-same-length-14
-same-length-14 c = search rules
+shape_of-scalars-in-27 : tie.Need-shape_of-scalars-in-27
+shape_of-scalars-in-27 c = search rules
 
-same-length-15 : tie.Need-same-length-15
-same-length-15 c = search rules
+shape_of-cells-in-27 : tie.Need-shape_of-cells-in-27
+shape_of-cells-in-27 c = search rules
 
-returns-5 : tie.Need-returns-5
+returns-in-27 : tie.Need-returns-in-27
 unfolding act_in choose store_rows
-returns-5 c =
-    let at_key : tie.At-match-keys5 = search in
-    rw at_key.match.keys5 (λ t. turn_known refl c.before.before.before.store_capture.ensures c.done-turn5.ensures)
+returns-in-27 c =
+    rw c.in-27.is (λ t. turn_known refl c.store_capture-r.ensures c.done_turn-in-27.ensures)
 
-same-length-16 : tie.Need-same-length-16
-same-length-16 c = search rules
+shape_of-slots-in-29 : tie.Need-shape_of-slots-in-29
+shape_of-slots-in-29 c = search rules
 
-same-length-17 : tie.Need-same-length-17
-same-length-17 c = search rules
+shape_of-scalars-in-29 : tie.Need-shape_of-scalars-in-29
+shape_of-scalars-in-29 c = search rules
 
-same-length-18 : tie.Need-same-length-18
-same-length-18 c = search rules
+shape_of-cells-in-29 : tie.Need-shape_of-cells-in-29
+shape_of-cells-in-29 c = search rules
 
-returns-6 : tie.Need-returns-6
+returns-in-29 : tie.Need-returns-in-29
 unfolding act_in choose store_rows
-returns-6 c =
-    let at_key : tie.At-match-keys6 = search in
-    rw at_key.match.keys6 (λ t. turn_known refl c.before.before.before.store_register.ensures c.done-turn6.ensures)
+returns-in-29 c =
+    rw c.in-29.is (λ t. turn_known refl c.store_register-r.ensures c.done_turn-in-29.ensures)
 
-same-length-19 : tie.Need-same-length-19
-same-length-19 c = search rules
+shape_of-slots-in-31 : tie.Need-shape_of-slots-in-31
+shape_of-slots-in-31 c = search rules
 
-same-length-20 : tie.Need-same-length-20
-same-length-20 c = search rules
+shape_of-scalars-in-31 : tie.Need-shape_of-scalars-in-31
+shape_of-scalars-in-31 c = search rules
 
-same-length-21 : tie.Need-same-length-21
-same-length-21 c = search rules
+shape_of-cells-in-31 : tie.Need-shape_of-cells-in-31
+shape_of-cells-in-31 c = search rules
 
-returns-7 : tie.Need-returns-7
+returns-in-31 : tie.Need-returns-in-31
 unfolding act_in choose store_rows
-returns-7 c =
-    let at_key : tie.At-match-keys7 = search in
-    rw at_key.match.keys7 (λ t. turn_known refl c.before.before.before.set_state.ensures c.done-turn7.ensures)
+returns-in-31 c =
+    rw c.in-31.is (λ t. turn_known refl c.set_state-r.ensures c.done_turn-in-31.ensures)
 
-same-length-22 : tie.Need-same-length-22
-same-length-22 c = search rules
+shape_of-slots-in-33 : tie.Need-shape_of-slots-in-33
+shape_of-slots-in-33 c = search rules
 
-same-length-23 : tie.Need-same-length-23
-same-length-23 c = search rules
+shape_of-scalars-in-33 : tie.Need-shape_of-scalars-in-33
+shape_of-scalars-in-33 c = search rules
 
-same-length-24 : tie.Need-same-length-24
-same-length-24 c = search rules
+shape_of-cells-in-33 : tie.Need-shape_of-cells-in-33
+shape_of-cells-in-33 c = search rules
 
-returns-8 : tie.Need-returns-8
+returns-in-33 : tie.Need-returns-in-33
 unfolding act_in choose store_rows
-returns-8 c =
-    let at_key : tie.At-match-keys8 = search in
-    rw at_key.match.keys8 (λ t. c.before.before.part-store.ensures)
+returns-in-33 c =
+    rw c.in-33.is (λ t. c.part_store.ensures)
 
-returns-9 : tie.Need-returns-9
+returns-in_default : tie.Need-returns-in_default
 unfolding store_rows
-returns-9 c = λ t. changed-unknown (no_row store_rows _ _ t c.match.rest)
+returns-in_default c = λ t. changed-unknown (no_row store_rows _ _ t c.in_default.in_default-own.rest)
 
 pub store_call_spec : {M : Type 1} → statement M
 store_call_spec =
     tie.close
     (tie.spec
-    store-item-requires
-    done-turn-requires
-    store-box-requires
-    done-turn-requires-2
-    store-cell-requires
-    done-turn-requires-3
-    store-field-requires
-    done-turn-requires-4
-    store-capture-requires
-    done-turn-requires-5
-    store-register-requires
-    done-turn-requires-6
-    set-state-requires
-    done-turn-requires-7
-    part-store-requires
-    same_length
-    same-length-2
-    same-length-3
-    returns
-    same-length-4
-    same-length-5
-    same-length-6
-    returns-2
-    same-length-7
-    same-length-8
-    same-length-9
-    returns-3
-    same-length-10
-    same-length-11
-    same-length-12
-    returns-4
-    same-length-13
-    same-length-14
-    same-length-15
-    returns-5
-    same-length-16
-    same-length-17
-    same-length-18
-    returns-6
-    same-length-19
-    same-length-20
-    same-length-21
-    returns-7
-    same-length-22
-    same-length-23
-    same-length-24
-    returns-8
-    returns-9)
+    store_item-r-requires
+    done_turn-requires
+    store_box-r-requires
+    done_turn-requires-in-21
+    store_cell-r-requires
+    done_turn-requires-in-23
+    store_field-r-requires
+    done_turn-requires-in-25
+    store_capture-r-requires
+    done_turn-requires-in-27
+    store_register-r-requires
+    done_turn-requires-in-29
+    set_state-r-requires
+    done_turn-requires-in-31
+    part_store-requires
+    shape_of-slots-in-18
+    shape_of-scalars-in-18
+    shape_of-cells-in-18
+    returns-in-18
+    shape_of-slots-in-21
+    shape_of-scalars-in-21
+    shape_of-cells-in-21
+    returns-in-21
+    shape_of-slots-in-23
+    shape_of-scalars-in-23
+    shape_of-cells-in-23
+    returns-in-23
+    shape_of-slots-in-25
+    shape_of-scalars-in-25
+    shape_of-cells-in-25
+    returns-in-25
+    shape_of-slots-in-27
+    shape_of-scalars-in-27
+    shape_of-cells-in-27
+    returns-in-27
+    shape_of-slots-in-29
+    shape_of-scalars-in-29
+    shape_of-cells-in-29
+    returns-in-29
+    shape_of-slots-in-31
+    shape_of-scalars-in-31
+    shape_of-cells-in-31
+    returns-in-31
+    shape_of-slots-in-33
+    shape_of-scalars-in-33
+    shape_of-cells-in-33
+    returns-in-33
+    returns-in_default)

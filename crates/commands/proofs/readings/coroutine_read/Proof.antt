@@ -8,60 +8,60 @@ use borrow.Author.Rules.{rules}
 use Rattle.commands.proofs.readings.coroutine_read.Statement.{statement}
 use Rattle.commands.proofs.readings.coroutine_read.Tie as tie
 
-read-register-requires : tie.Need-read-register-requires
-read-register-requires c κs = search rules
+read_register-requires : tie.Need-read_register-requires
+read_register-requires c κs = search rules
 
 word-requires : tie.Need-word-requires
 word-requires c κs = search rules
 
-read-state-requires : tie.Need-read-state-requires
-read-state-requires c κs = search rules
+read_state-requires : tie.Need-read_state-requires
+read_state-requires c κs = search rules
 
-word-requires-2 : tie.Need-word-requires-2
-word-requires-2 c κs = search rules
+word-requires-in-30 : tie.Need-word-requires-in-30
+word-requires-in-30 c κs = search rules
 
-coroutine-part-requires : tie.Need-coroutine-part-requires
-coroutine-part-requires c κs = search rules
+coroutine_part-requires : tie.Need-coroutine_part-requires
+coroutine_part-requires c κs = search rules
 
-read-frame-requires : tie.Need-read-frame-requires
-read-frame-requires c κs = search rules
+read_frame-requires : tie.Need-read_frame-requires
+read_frame-requires c κs = search rules
 
 frame-requires : tie.Need-frame-requires
 frame-requires c κs = search rules
 
-returns : tie.Need-returns
+returns-in-28 : tie.Need-returns-in-28
 unfolding act_in choose coroutine_rows
-returns c = rw c.before.before.match.keys1 (λ t. read_so c.before.read_register.ensures c.word.ensures refl)
+returns-in-28 c = rw c.in-28.is (λ t. read_so c.read_register.ensures c.word.ensures refl)
 
-returns-2 : tie.Need-returns-2
+returns-in-30 : tie.Need-returns-in-30
 unfolding act_in choose coroutine_rows
-returns-2 c = rw c.before.before.match.keys2 (λ t. read_so c.before.read_state.ensures c.word2.ensures refl)
+returns-in-30 c = rw c.in-30.is (λ t. read_so c.read_state.ensures c.word-in-30.ensures refl)
 
-returns-3 : tie.Need-returns-3
+returns-in-32 : tie.Need-returns-in-32
 unfolding act_in choose coroutine_rows
-returns-3 c = rw c.before.match.keys3 (λ t. c.coroutine-part.ensures)
+returns-in-32 c = rw c.in-32.is (λ t. c.coroutine_part.ensures)
 
-returns-4 : tie.Need-returns-4
+returns-in-77 : tie.Need-returns-in-77
 unfolding act_in choose coroutine_rows
-returns-4 c = rw c.before.before.match.keys4 (λ t. read_so c.before.read_frame.ensures c.frame.ensures refl)
+returns-in-77 c = rw c.in-77.is (λ t. read_so c.read_frame.ensures c.frame.ensures refl)
 
-returns-5 : tie.Need-returns-5
+returns-in_default : tie.Need-returns-in_default
 unfolding coroutine_rows
-returns-5 c = λ t. changed-unknown (no_row coroutine_rows _ _ t c.match.rest)
+returns-in_default c = λ t. changed-unknown (no_row coroutine_rows _ _ t c.in_default.in_default-own.rest)
 
 pub coroutine_read_spec : {M : Type 1} → statement M
 coroutine_read_spec =
     tie.close
     (tie.spec
-    read-register-requires
+    read_register-requires
     word-requires
-    read-state-requires
-    word-requires-2
-    coroutine-part-requires
-    read-frame-requires
+    read_state-requires
+    word-requires-in-30
+    coroutine_part-requires
+    read_frame-requires
     frame-requires
-    returns
-    returns-2
-    returns-3
-    returns-4
-    returns-5)
+    returns-in-28
+    returns-in-30
+    returns-in-32
+    returns-in-77
+    returns-in_default)

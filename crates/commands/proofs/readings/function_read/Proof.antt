@@ -3,31 +3,31 @@ use borrow.Author.Rules.{rules}
 use Rattle.commands.proofs.readings.function_read.Statement.{statement}
 use Rattle.commands.proofs.readings.function_read.Tie as tie
 
-function-number-requires : tie.Need-function-number-requires
-function-number-requires c κs = search rules
+function_number-n-requires : tie.Need-function_number-n-requires
+function_number-n-requires c κs = search rules
 
-is-import-requires : tie.Need-is-import-requires
-is-import-requires c κs = search rules
+is_import-b-requires : tie.Need-is_import-b-requires
+is_import-b-requires c κs = search rules
 
-reading-requires : tie.Need-reading-requires
-reading-requires c κs = search rules
+reading-s-requires : tie.Need-reading-s-requires
+reading-s-requires c κs = search rules
 
-test-requires : tie.Need-test-requires
-test-requires c κs = search rules
+test-t-requires : tie.Need-test-t-requires
+test-t-requires c κs = search rules
 
-with-second-requires : tie.Need-with-second-requires
-with-second-requires c κs = search rules
+with_second-requires : tie.Need-with_second-requires
+with_second-requires c κs = search rules
 
 returns : tie.Need-returns
-returns c = read_both c.before.before.before.before.function_number.ensures c.before.before.before.is_import.ensures c.before.before.reading.ensures c.before.test.ensures c.with_Second.ensures
+returns c = read_both c.function_number-n.ensures c.is_import-b.ensures c.reading-s.ensures c.test-t.ensures c.with_second.ensures
 
 pub function_read_spec : {M : Type 1} → statement M
 function_read_spec =
     tie.close
     (tie.spec
-    function-number-requires
-    is-import-requires
-    reading-requires
-    test-requires
-    with-second-requires
+    function_number-n-requires
+    is_import-b-requires
+    reading-s-requires
+    test-t-requires
+    with_second-requires
     returns)

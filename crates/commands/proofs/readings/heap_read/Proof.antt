@@ -8,8 +8,8 @@ use borrow.Author.Rules.{rules}
 use Rattle.commands.proofs.readings.heap_read.Statement.{statement}
 use Rattle.commands.proofs.readings.heap_read.Tie as tie
 
-wants-gc-requires : tie.Need-wants-gc-requires
-wants-gc-requires c κs = search rules
+wants_gc-requires : tie.Need-wants_gc-requires
+wants_gc-requires c κs = search rules
 
 flag-requires : tie.Need-flag-requires
 flag-requires c κs = search rules
@@ -17,81 +17,81 @@ flag-requires c κs = search rules
 fits-requires : tie.Need-fits-requires
 fits-requires c κs = search rules
 
-flag-requires-2 : tie.Need-flag-requires-2
-flag-requires-2 c κs = search rules
+flag-requires-in-82 : tie.Need-flag-requires-in-82
+flag-requires-in-82 c κs = search rules
 
-collection-count-requires : tie.Need-collection-count-requires
-collection-count-requires c κs = search rules
+collection_count-requires : tie.Need-collection_count-requires
+collection_count-requires c κs = search rules
 
 number-requires : tie.Need-number-requires
 number-requires c κs = search rules
 
-freed-count-requires : tie.Need-freed-count-requires
-freed-count-requires c κs = search rules
+freed_count-requires : tie.Need-freed_count-requires
+freed_count-requires c κs = search rules
 
-number-requires-2 : tie.Need-number-requires-2
-number-requires-2 c κs = search rules
+number-requires-in-84 : tie.Need-number-requires-in-84
+number-requires-in-84 c κs = search rules
 
-present-count-requires : tie.Need-present-count-requires
-present-count-requires c κs = search rules
+present_count-requires : tie.Need-present_count-requires
+present_count-requires c κs = search rules
 
-number-requires-3 : tie.Need-number-requires-3
-number-requires-3 c κs = search rules
+number-requires-in-85 : tie.Need-number-requires-in-85
+number-requires-in-85 c κs = search rules
 
-cells-in-use-requires : tie.Need-cells-in-use-requires
-cells-in-use-requires c κs = search rules
+cells_in_use-requires : tie.Need-cells_in_use-requires
+cells_in_use-requires c κs = search rules
 
-number-requires-4 : tie.Need-number-requires-4
-number-requires-4 c κs = search rules
+number-requires-in-86 : tie.Need-number-requires-in-86
+number-requires-in-86 c κs = search rules
 
-returns : tie.Need-returns
+returns-in-81 : tie.Need-returns-in-81
 unfolding act_in choose heap_rows
-returns c = rw c.before.before.match.keys1 (λ t. read_so c.before.wants_gc.ensures c.flag.ensures refl)
+returns-in-81 c = rw c.in-81.is (λ t. read_so c.wants_gc.ensures c.flag.ensures refl)
 
-returns-2 : tie.Need-returns-2
+returns-in-82 : tie.Need-returns-in-82
 unfolding act_in choose heap_rows
-returns-2 c = rw c.before.before.match.keys2 (λ t. read_so c.before.fits2.ensures c.flag2.ensures refl)
+returns-in-82 c = rw c.in-82.is (λ t. read_so c.fits.ensures c.flag-in-82.ensures refl)
 
-returns-3 : tie.Need-returns-3
+returns-in-83 : tie.Need-returns-in-83
 unfolding act_in choose heap_rows
-returns-3 c = rw c.before.before.match.keys3 (λ t. read_so c.before.collection_count.ensures c.number.ensures refl)
+returns-in-83 c = rw c.in-83.is (λ t. read_so c.collection_count.ensures c.number.ensures refl)
 
-returns-4 : tie.Need-returns-4
+returns-in-84 : tie.Need-returns-in-84
 unfolding act_in choose heap_rows
-returns-4 c = rw c.before.before.match.keys4 (λ t. read_so c.before.freed_count.ensures c.number2.ensures refl)
+returns-in-84 c = rw c.in-84.is (λ t. read_so c.freed_count.ensures c.number-in-84.ensures refl)
 
-returns-5 : tie.Need-returns-5
+returns-in-85 : tie.Need-returns-in-85
 unfolding act_in choose heap_rows
-returns-5 c = rw c.before.before.match.keys5 (λ t. read_so c.before.present_count.ensures c.number3.ensures refl)
+returns-in-85 c = rw c.in-85.is (λ t. read_so c.present_count.ensures c.number-in-85.ensures refl)
 
-returns-6 : tie.Need-returns-6
+returns-in-86 : tie.Need-returns-in-86
 unfolding act_in choose heap_rows
-returns-6 c = rw c.before.before.match.keys6 (λ t. read_so c.before.cells_in_use.ensures c.number4.ensures refl)
+returns-in-86 c = rw c.in-86.is (λ t. read_so c.cells_in_use.ensures c.number-in-86.ensures refl)
 
-returns-7 : tie.Need-returns-7
+returns-in_default : tie.Need-returns-in_default
 unfolding heap_rows
-returns-7 c = λ t. changed-unknown (no_row heap_rows _ _ t c.match.rest)
+returns-in_default c = λ t. changed-unknown (no_row heap_rows _ _ t c.in_default.in_default-own.rest)
 
 pub heap_read_spec : {M : Type 1} → statement M
 heap_read_spec =
     tie.close
     (tie.spec
-    wants-gc-requires
+    wants_gc-requires
     flag-requires
     fits-requires
-    flag-requires-2
-    collection-count-requires
+    flag-requires-in-82
+    collection_count-requires
     number-requires
-    freed-count-requires
-    number-requires-2
-    present-count-requires
-    number-requires-3
-    cells-in-use-requires
-    number-requires-4
-    returns
-    returns-2
-    returns-3
-    returns-4
-    returns-5
-    returns-6
-    returns-7)
+    freed_count-requires
+    number-requires-in-84
+    present_count-requires
+    number-requires-in-85
+    cells_in_use-requires
+    number-requires-in-86
+    returns-in-81
+    returns-in-82
+    returns-in-83
+    returns-in-84
+    returns-in-85
+    returns-in-86
+    returns-in_default)

@@ -8,138 +8,138 @@ use borrow.Author.Rules.{rules}
 use Rattle.commands.proofs.readings.list_read.Statement.{statement}
 use Rattle.commands.proofs.readings.list_read.Tie as tie
 
-array-length-requires : tie.Need-array-length-requires
-array-length-requires c κs = search rules
+array_length-requires : tie.Need-array_length-requires
+array_length-requires c κs = search rules
 
 word-requires : tie.Need-word-requires
 word-requires c κs = search rules
 
-read-item-requires : tie.Need-read-item-requires
-read-item-requires c κs = search rules
+read_item-requires : tie.Need-read_item-requires
+read_item-requires c κs = search rules
 
-word-requires-2 : tie.Need-word-requires-2
-word-requires-2 c κs = search rules
+word-requires-in-17 : tie.Need-word-requires-in-17
+word-requires-in-17 c κs = search rules
 
-array-type-requires : tie.Need-array-type-requires
-array-type-requires c κs = search rules
+array_type-requires : tie.Need-array_type-requires
+array_type-requires c κs = search rules
 
-word-requires-3 : tie.Need-word-requires-3
-word-requires-3 c κs = search rules
+word-requires-in-45 : tie.Need-word-requires-in-45
+word-requires-in-45 c κs = search rules
 
-array-capacity-requires : tie.Need-array-capacity-requires
-array-capacity-requires c κs = search rules
+array_capacity-requires : tie.Need-array_capacity-requires
+array_capacity-requires c κs = search rules
 
-word-requires-4 : tie.Need-word-requires-4
-word-requires-4 c κs = search rules
+word-requires-in-46 : tie.Need-word-requires-in-46
+word-requires-in-46 c κs = search rules
 
-read-field-requires : tie.Need-read-field-requires
-read-field-requires c κs = search rules
+read_field-requires : tie.Need-read_field-requires
+read_field-requires c κs = search rules
 
-word-requires-5 : tie.Need-word-requires-5
-word-requires-5 c κs = search rules
+word-requires-in-24 : tie.Need-word-requires-in-24
+word-requires-in-24 c κs = search rules
 
-struct-number-requires : tie.Need-struct-number-requires
-struct-number-requires c κs = search rules
+struct_number-requires : tie.Need-struct_number-requires
+struct_number-requires c κs = search rules
 
-word-requires-6 : tie.Need-word-requires-6
-word-requires-6 c κs = search rules
+word-requires-in-41 : tie.Need-word-requires-in-41
+word-requires-in-41 c κs = search rules
 
-field-count-requires : tie.Need-field-count-requires
-field-count-requires c κs = search rules
+field_count-requires : tie.Need-field_count-requires
+field_count-requires c κs = search rules
 
-word-requires-7 : tie.Need-word-requires-7
-word-requires-7 c κs = search rules
+word-requires-in-42 : tie.Need-word-requires-in-42
+word-requires-in-42 c κs = search rules
 
-read-capture-requires : tie.Need-read-capture-requires
-read-capture-requires c κs = search rules
+read_capture-requires : tie.Need-read_capture-requires
+read_capture-requires c κs = search rules
 
-word-requires-8 : tie.Need-word-requires-8
-word-requires-8 c κs = search rules
+word-requires-in-26 : tie.Need-word-requires-in-26
+word-requires-in-26 c κs = search rules
 
-function-read-requires : tie.Need-function-read-requires
-function-read-requires c κs = search rules
+function_read-requires : tie.Need-function_read-requires
+function_read-requires c κs = search rules
 
-capture-count-requires : tie.Need-capture-count-requires
-capture-count-requires c κs = search rules
+capture_count-requires : tie.Need-capture_count-requires
+capture_count-requires c κs = search rules
 
-word-requires-9 : tie.Need-word-requires-9
-word-requires-9 c κs = search rules
+word-requires-in-44 : tie.Need-word-requires-in-44
+word-requires-in-44 c κs = search rules
 
-returns : tie.Need-returns
+returns-in-16 : tie.Need-returns-in-16
 unfolding act_in choose list_rows
-returns c = rw c.before.before.match.keys1 (λ t. read_so c.before.array_length.ensures c.word.ensures refl)
+returns-in-16 c = rw c.in-16.is (λ t. read_so c.array_length.ensures c.word.ensures refl)
 
-returns-2 : tie.Need-returns-2
+returns-in-17 : tie.Need-returns-in-17
 unfolding act_in choose list_rows
-returns-2 c = rw c.before.before.match.keys2 (λ t. read_so c.before.read_item.ensures c.word2.ensures refl)
+returns-in-17 c = rw c.in-17.is (λ t. read_so c.read_item.ensures c.word-in-17.ensures refl)
 
-returns-3 : tie.Need-returns-3
+returns-in-45 : tie.Need-returns-in-45
 unfolding act_in choose list_rows
-returns-3 c = rw c.before.before.match.keys3 (λ t. read_so c.before.array_type.ensures c.word3.ensures refl)
+returns-in-45 c = rw c.in-45.is (λ t. read_so c.array_type.ensures c.word-in-45.ensures refl)
 
-returns-4 : tie.Need-returns-4
+returns-in-46 : tie.Need-returns-in-46
 unfolding act_in choose list_rows
-returns-4 c = rw c.before.before.match.keys4 (λ t. read_so c.before.array_capacity.ensures c.word4.ensures refl)
+returns-in-46 c = rw c.in-46.is (λ t. read_so c.array_capacity.ensures c.word-in-46.ensures refl)
 
-returns-5 : tie.Need-returns-5
+returns-in-24 : tie.Need-returns-in-24
 unfolding act_in choose list_rows
-returns-5 c = rw c.before.before.match.keys5 (λ t. read_so c.before.read_field.ensures c.word5.ensures refl)
+returns-in-24 c = rw c.in-24.is (λ t. read_so c.read_field.ensures c.word-in-24.ensures refl)
 
-returns-6 : tie.Need-returns-6
+returns-in-41 : tie.Need-returns-in-41
 unfolding act_in choose list_rows
-returns-6 c = rw c.before.before.match.keys6 (λ t. read_so c.before.struct_number.ensures c.word6.ensures refl)
+returns-in-41 c = rw c.in-41.is (λ t. read_so c.struct_number.ensures c.word-in-41.ensures refl)
 
-returns-7 : tie.Need-returns-7
+returns-in-42 : tie.Need-returns-in-42
 unfolding act_in choose list_rows
-returns-7 c = rw c.before.before.match.keys7 (λ t. read_so c.before.field_count.ensures c.word7.ensures refl)
+returns-in-42 c = rw c.in-42.is (λ t. read_so c.field_count.ensures c.word-in-42.ensures refl)
 
-returns-8 : tie.Need-returns-8
+returns-in-26 : tie.Need-returns-in-26
 unfolding act_in choose list_rows
-returns-8 c = rw c.before.before.match.keys8 (λ t. read_so c.before.read_capture.ensures c.word8.ensures refl)
+returns-in-26 c = rw c.in-26.is (λ t. read_so c.read_capture.ensures c.word-in-26.ensures refl)
 
-returns-9 : tie.Need-returns-9
+returns-in-43 : tie.Need-returns-in-43
 unfolding act_in choose list_rows
-returns-9 c = rw c.before.match.keys9 (λ t. c.function-read.ensures)
+returns-in-43 c = rw c.in-43.is (λ t. c.function_read.ensures)
 
-returns-10 : tie.Need-returns-10
+returns-in-44 : tie.Need-returns-in-44
 unfolding act_in choose list_rows
-returns-10 c = rw c.before.before.match.keys10 (λ t. read_so c.before.capture_count.ensures c.word9.ensures refl)
+returns-in-44 c = rw c.in-44.is (λ t. read_so c.capture_count.ensures c.word-in-44.ensures refl)
 
-returns-11 : tie.Need-returns-11
+returns-in_default : tie.Need-returns-in_default
 unfolding list_rows
-returns-11 c = λ t. changed-unknown (no_row list_rows _ _ t c.match.rest)
+returns-in_default c = λ t. changed-unknown (no_row list_rows _ _ t c.in_default.in_default-own.rest)
 
 pub list_read_spec : {M : Type 1} → statement M
 list_read_spec =
     tie.close
     (tie.spec
-    array-length-requires
+    array_length-requires
     word-requires
-    read-item-requires
-    word-requires-2
-    array-type-requires
-    word-requires-3
-    array-capacity-requires
-    word-requires-4
-    read-field-requires
-    word-requires-5
-    struct-number-requires
-    word-requires-6
-    field-count-requires
-    word-requires-7
-    read-capture-requires
-    word-requires-8
-    function-read-requires
-    capture-count-requires
-    word-requires-9
-    returns
-    returns-2
-    returns-3
-    returns-4
-    returns-5
-    returns-6
-    returns-7
-    returns-8
-    returns-9
-    returns-10
-    returns-11)
+    read_item-requires
+    word-requires-in-17
+    array_type-requires
+    word-requires-in-45
+    array_capacity-requires
+    word-requires-in-46
+    read_field-requires
+    word-requires-in-24
+    struct_number-requires
+    word-requires-in-41
+    field_count-requires
+    word-requires-in-42
+    read_capture-requires
+    word-requires-in-26
+    function_read-requires
+    capture_count-requires
+    word-requires-in-44
+    returns-in-16
+    returns-in-17
+    returns-in-45
+    returns-in-46
+    returns-in-24
+    returns-in-41
+    returns-in-42
+    returns-in-26
+    returns-in-43
+    returns-in-44
+    returns-in_default)

@@ -8,103 +8,103 @@ use borrow.Author.Rules.{rules}
 use Rattle.commands.proofs.readings.map_number.Statement.{statement}
 use Rattle.commands.proofs.readings.map_number.Tie as tie
 
-key-type-requires : tie.Need-key-type-requires
-key-type-requires c κs = search rules
+key_type-requires : tie.Need-key_type-requires
+key_type-requires c κs = search rules
 
 word-requires : tie.Need-word-requires
 word-requires c κs = search rules
 
-value-type-requires : tie.Need-value-type-requires
-value-type-requires c κs = search rules
+value_type-requires : tie.Need-value_type-requires
+value_type-requires c κs = search rules
 
-word-requires-2 : tie.Need-word-requires-2
-word-requires-2 c κs = search rules
+word-requires-in-63 : tie.Need-word-requires-in-63
+word-requires-in-63 c κs = search rules
 
-map-epoch-requires : tie.Need-map-epoch-requires
-map-epoch-requires c κs = search rules
+map_epoch-requires : tie.Need-map_epoch-requires
+map_epoch-requires c κs = search rules
 
-word-requires-3 : tie.Need-word-requires-3
-word-requires-3 c κs = search rules
+word-requires-in-72 : tie.Need-word-requires-in-72
+word-requires-in-72 c κs = search rules
 
-next-sequence-requires : tie.Need-next-sequence-requires
-next-sequence-requires c κs = search rules
+next_sequence-requires : tie.Need-next_sequence-requires
+next_sequence-requires c κs = search rules
 
-word-requires-4 : tie.Need-word-requires-4
-word-requires-4 c κs = search rules
+word-requires-in-73 : tie.Need-word-requires-in-73
+word-requires-in-73 c κs = search rules
 
-noted-key-requires : tie.Need-noted-key-requires
-noted-key-requires c κs = search rules
+noted_key-requires : tie.Need-noted_key-requires
+noted_key-requires c κs = search rules
 
 noted-requires : tie.Need-noted-requires
 noted-requires c κs = search rules
 
-entry-capacity-requires : tie.Need-entry-capacity-requires
-entry-capacity-requires c κs = search rules
+entry_capacity-requires : tie.Need-entry_capacity-requires
+entry_capacity-requires c κs = search rules
 
-word-requires-5 : tie.Need-word-requires-5
-word-requires-5 c κs = search rules
+word-requires-in-75 : tie.Need-word-requires-in-75
+word-requires-in-75 c κs = search rules
 
-index-length-requires : tie.Need-index-length-requires
-index-length-requires c κs = search rules
+index_length-requires : tie.Need-index_length-requires
+index_length-requires c κs = search rules
 
-word-requires-6 : tie.Need-word-requires-6
-word-requires-6 c κs = search rules
+word-requires-in-76 : tie.Need-word-requires-in-76
+word-requires-in-76 c κs = search rules
 
-returns : tie.Need-returns
+returns-in-62 : tie.Need-returns-in-62
 unfolding act_in choose map_number_rows
-returns c = rw c.before.before.match.keys1 (λ t. read_so c.before.key_type.ensures c.word.ensures refl)
+returns-in-62 c = rw c.in-62.is (λ t. read_so c.key_type.ensures c.word.ensures refl)
 
-returns-2 : tie.Need-returns-2
+returns-in-63 : tie.Need-returns-in-63
 unfolding act_in choose map_number_rows
-returns-2 c = rw c.before.before.match.keys2 (λ t. read_so c.before.value_type.ensures c.word2.ensures refl)
+returns-in-63 c = rw c.in-63.is (λ t. read_so c.value_type.ensures c.word-in-63.ensures refl)
 
-returns-3 : tie.Need-returns-3
+returns-in-72 : tie.Need-returns-in-72
 unfolding act_in choose map_number_rows
-returns-3 c = rw c.before.before.match.keys3 (λ t. read_so c.before.map_epoch.ensures c.word3.ensures refl)
+returns-in-72 c = rw c.in-72.is (λ t. read_so c.map_epoch.ensures c.word-in-72.ensures refl)
 
-returns-4 : tie.Need-returns-4
+returns-in-73 : tie.Need-returns-in-73
 unfolding act_in choose map_number_rows
-returns-4 c = rw c.before.before.match.keys4 (λ t. read_so c.before.next_sequence.ensures c.word4.ensures refl)
+returns-in-73 c = rw c.in-73.is (λ t. read_so c.next_sequence.ensures c.word-in-73.ensures refl)
 
-returns-5 : tie.Need-returns-5
+returns-in-74 : tie.Need-returns-in-74
 unfolding act_in choose map_number_rows
-returns-5 c = rw c.before.before.match.keys5 (λ t. read_so c.before.noted_key.ensures c.noted.ensures refl)
+returns-in-74 c = rw c.in-74.is (λ t. read_so c.noted_key.ensures c.noted.ensures refl)
 
-returns-6 : tie.Need-returns-6
+returns-in-75 : tie.Need-returns-in-75
 unfolding act_in choose map_number_rows
-returns-6 c = rw c.before.before.match.keys6 (λ t. read_so c.before.entry_capacity.ensures c.word5.ensures refl)
+returns-in-75 c = rw c.in-75.is (λ t. read_so c.entry_capacity.ensures c.word-in-75.ensures refl)
 
-returns-7 : tie.Need-returns-7
+returns-in-76 : tie.Need-returns-in-76
 unfolding act_in choose map_number_rows
-returns-7 c = rw c.before.before.match.keys7 (λ t. read_so c.before.index_length.ensures c.word6.ensures refl)
+returns-in-76 c = rw c.in-76.is (λ t. read_so c.index_length.ensures c.word-in-76.ensures refl)
 
-returns-8 : tie.Need-returns-8
+returns-in_default : tie.Need-returns-in_default
 unfolding map_number_rows
-returns-8 c = λ t. changed-unknown (no_row map_number_rows _ _ t c.match.rest)
+returns-in_default c = λ t. changed-unknown (no_row map_number_rows _ _ t c.in_default.in_default-own.rest)
 
 pub map_number_spec : {M : Type 1} → statement M
 map_number_spec =
     tie.close
     (tie.spec
-    key-type-requires
+    key_type-requires
     word-requires
-    value-type-requires
-    word-requires-2
-    map-epoch-requires
-    word-requires-3
-    next-sequence-requires
-    word-requires-4
-    noted-key-requires
+    value_type-requires
+    word-requires-in-63
+    map_epoch-requires
+    word-requires-in-72
+    next_sequence-requires
+    word-requires-in-73
+    noted_key-requires
     noted-requires
-    entry-capacity-requires
-    word-requires-5
-    index-length-requires
-    word-requires-6
-    returns
-    returns-2
-    returns-3
-    returns-4
-    returns-5
-    returns-6
-    returns-7
-    returns-8)
+    entry_capacity-requires
+    word-requires-in-75
+    index_length-requires
+    word-requires-in-76
+    returns-in-62
+    returns-in-63
+    returns-in-72
+    returns-in-73
+    returns-in-74
+    returns-in-75
+    returns-in-76
+    returns-in_default)

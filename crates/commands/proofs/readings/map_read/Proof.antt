@@ -14,80 +14,80 @@ find-requires c κs = search rules
 perhaps-requires : tie.Need-perhaps-requires
 perhaps-requires c κs = search rules
 
-read-entry-requires : tie.Need-read-entry-requires
-read-entry-requires c κs = search rules
+read_entry-requires : tie.Need-read_entry-requires
+read_entry-requires c κs = search rules
 
 entry-requires : tie.Need-entry-requires
 entry-requires c κs = search rules
 
-live-count-requires : tie.Need-live-count-requires
-live-count-requires c κs = search rules
+live_count-requires : tie.Need-live_count-requires
+live_count-requires c κs = search rules
 
 word-requires : tie.Need-word-requires
 word-requires c κs = search rules
 
-is-hashed-requires : tie.Need-is-hashed-requires
-is-hashed-requires c κs = search rules
+is_hashed-requires : tie.Need-is_hashed-requires
+is_hashed-requires c κs = search rules
 
 test-requires : tie.Need-test-requires
 test-requires c κs = search rules
 
-next-key-requires : tie.Need-next-key-requires
-next-key-requires c κs = search rules
+next_key-requires : tie.Need-next_key-requires
+next_key-requires c κs = search rules
 
-next-int-requires : tie.Need-next-int-requires
-next-int-requires c κs = search rules
+next_int-requires : tie.Need-next_int-requires
+next_int-requires c κs = search rules
 
 step-requires : tie.Need-step-requires
 step-requires c κs = search rules
 
-growth-bytes-requires : tie.Need-growth-bytes-requires
-growth-bytes-requires c κs = search rules
+growth_bytes-requires : tie.Need-growth_bytes-requires
+growth_bytes-requires c κs = search rules
 
-word-requires-2 : tie.Need-word-requires-2
-word-requires-2 c κs = search rules
+word-requires-in-60 : tie.Need-word-requires-in-60
+word-requires-in-60 c κs = search rules
 
-place-count-requires : tie.Need-place-count-requires
-place-count-requires c κs = search rules
+place_count-requires : tie.Need-place_count-requires
+place_count-requires c κs = search rules
 
-word-requires-3 : tie.Need-word-requires-3
-word-requires-3 c κs = search rules
+word-requires-in-61 : tie.Need-word-requires-in-61
+word-requires-in-61 c κs = search rules
 
-returns : tie.Need-returns
+returns-in-49 : tie.Need-returns-in-49
 unfolding act_in choose map_rows
-returns c = rw c.before.before.match.keys1 (λ t. read_so c.before.find.ensures c.perhaps.ensures refl)
+returns-in-49 c = rw c.in-49.is (λ t. read_so c.find.ensures c.perhaps.ensures refl)
 
-returns-2 : tie.Need-returns-2
+returns-in-51 : tie.Need-returns-in-51
 unfolding act_in choose map_rows
-returns-2 c = rw c.before.before.match.keys2 (λ t. read_so c.before.read_entry.ensures c.entry.ensures refl)
+returns-in-51 c = rw c.in-51.is (λ t. read_so c.read_entry.ensures c.entry.ensures refl)
 
-returns-3 : tie.Need-returns-3
+returns-in-54 : tie.Need-returns-in-54
 unfolding act_in choose map_rows
-returns-3 c = rw c.before.before.match.keys3 (λ t. read_so c.before.live_count.ensures c.word.ensures refl)
+returns-in-54 c = rw c.in-54.is (λ t. read_so c.live_count.ensures c.word.ensures refl)
 
-returns-4 : tie.Need-returns-4
+returns-in-55 : tie.Need-returns-in-55
 unfolding act_in choose map_rows
-returns-4 c = rw c.before.before.match.keys4 (λ t. read_so c.before.is_hashed.ensures c.test.ensures refl)
+returns-in-55 c = rw c.in-55.is (λ t. read_so c.is_hashed.ensures c.test.ensures refl)
 
-returns-5 : tie.Need-returns-5
+returns-in-57 : tie.Need-returns-in-57
 unfolding act_in choose map_rows
-returns-5 c = rw c.before.before.match.keys5 (λ t. read_so c.before.next_key.ensures c.next-int.ensures refl)
+returns-in-57 c = rw c.in-57.is (λ t. read_so c.next_key.ensures c.next_int.ensures refl)
 
-returns-6 : tie.Need-returns-6
+returns-in-58 : tie.Need-returns-in-58
 unfolding act_in choose map_rows
-returns-6 c = rw c.before.match.keys6 (λ t. c.step.ensures)
+returns-in-58 c = rw c.in-58.is (λ t. c.step.ensures)
 
-returns-7 : tie.Need-returns-7
+returns-in-60 : tie.Need-returns-in-60
 unfolding act_in choose map_rows
-returns-7 c = rw c.before.before.match.keys7 (λ t. read_so c.before.growth_bytes.ensures c.word2.ensures refl)
+returns-in-60 c = rw c.in-60.is (λ t. read_so c.growth_bytes.ensures c.word-in-60.ensures refl)
 
-returns-8 : tie.Need-returns-8
+returns-in-61 : tie.Need-returns-in-61
 unfolding act_in choose map_rows
-returns-8 c = rw c.before.before.match.keys8 (λ t. read_so c.before.place_count.ensures c.word3.ensures refl)
+returns-in-61 c = rw c.in-61.is (λ t. read_so c.place_count.ensures c.word-in-61.ensures refl)
 
-returns-9 : tie.Need-returns-9
+returns-in_default : tie.Need-returns-in_default
 unfolding map_rows
-returns-9 c = λ t. changed-unknown (no_row map_rows _ _ t c.match.rest)
+returns-in_default c = λ t. changed-unknown (no_row map_rows _ _ t c.in_default.in_default-own.rest)
 
 pub map_read_spec : {M : Type 1} → statement M
 map_read_spec =
@@ -95,25 +95,25 @@ map_read_spec =
     (tie.spec
     find-requires
     perhaps-requires
-    read-entry-requires
+    read_entry-requires
     entry-requires
-    live-count-requires
+    live_count-requires
     word-requires
-    is-hashed-requires
+    is_hashed-requires
     test-requires
-    next-key-requires
-    next-int-requires
+    next_key-requires
+    next_int-requires
     step-requires
-    growth-bytes-requires
-    word-requires-2
-    place-count-requires
-    word-requires-3
-    returns
-    returns-2
-    returns-3
-    returns-4
-    returns-5
-    returns-6
-    returns-7
-    returns-8
-    returns-9)
+    growth_bytes-requires
+    word-requires-in-60
+    place_count-requires
+    word-requires-in-61
+    returns-in-49
+    returns-in-51
+    returns-in-54
+    returns-in-55
+    returns-in-57
+    returns-in-58
+    returns-in-60
+    returns-in-61
+    returns-in_default)

@@ -8,47 +8,47 @@ use borrow.Author.Rules.{rules}
 use Rattle.commands.proofs.readings.plain_read.Statement.{statement}
 use Rattle.commands.proofs.readings.plain_read.Tie as tie
 
-read-box-requires : tie.Need-read-box-requires
-read-box-requires c κs = search rules
+read_box-requires : tie.Need-read_box-requires
+read_box-requires c κs = search rules
 
 word-requires : tie.Need-word-requires
 word-requires c κs = search rules
 
-read-cell-requires : tie.Need-read-cell-requires
-read-cell-requires c κs = search rules
+read_cell-requires : tie.Need-read_cell-requires
+read_cell-requires c κs = search rules
 
-word-requires-2 : tie.Need-word-requires-2
-word-requires-2 c κs = search rules
+word-requires-in-22 : tie.Need-word-requires-in-22
+word-requires-in-22 c κs = search rules
 
-cell-type-requires : tie.Need-cell-type-requires
-cell-type-requires c κs = search rules
+cell_type-requires : tie.Need-cell_type-requires
+cell_type-requires c κs = search rules
 
-word-requires-3 : tie.Need-word-requires-3
-word-requires-3 c κs = search rules
+word-requires-in-47 : tie.Need-word-requires-in-47
+word-requires-in-47 c κs = search rules
 
-error-kind-requires : tie.Need-error-kind-requires
-error-kind-requires c κs = search rules
+error_kind-requires : tie.Need-error_kind-requires
+error_kind-requires c κs = search rules
 
-word-requires-4 : tie.Need-word-requires-4
-word-requires-4 c κs = search rules
+word-requires-in-34 : tie.Need-word-requires-in-34
+word-requires-in-34 c κs = search rules
 
-error-word-requires : tie.Need-error-word-requires
-error-word-requires c κs = search rules
+error_word-requires : tie.Need-error_word-requires
+error_word-requires c κs = search rules
 
-word-requires-5 : tie.Need-word-requires-5
-word-requires-5 c κs = search rules
+word-requires-in-35 : tie.Need-word-requires-in-35
+word-requires-in-35 c κs = search rules
 
-read-integer-requires : tie.Need-read-integer-requires
-read-integer-requires c κs = search rules
+read_integer-requires : tie.Need-read_integer-requires
+read_integer-requires c κs = search rules
 
 signed-requires : tie.Need-signed-requires
 signed-requires c κs = search rules
 
-string-length-requires : tie.Need-string-length-requires
-string-length-requires c κs = search rules
+string_length-requires : tie.Need-string_length-requires
+string_length-requires c κs = search rules
 
-word-requires-6 : tie.Need-word-requires-6
-word-requires-6 c κs = search rules
+word-requires-in-37 : tie.Need-word-requires-in-37
+word-requires-in-37 c κs = search rules
 
 get-requires : tie.Need-get-requires
 get-requires c κs = search rules
@@ -59,91 +59,91 @@ number-requires c κs = search rules
 deref-requires : tie.Need-deref-requires
 deref-requires c κs = search rules
 
-number-requires-2 : tie.Need-number-requires-2
-number-requires-2 c κs = search rules
+number-requires-in-40 : tie.Need-number-requires-in-40
+number-requires-in-40 c κs = search rules
 
-kind-of-requires : tie.Need-kind-of-requires
-kind-of-requires c κs = search rules
+kind_of-requires : tie.Need-kind_of-requires
+kind_of-requires c κs = search rules
 
 kind-requires : tie.Need-kind-requires
 kind-requires c κs = search rules
 
-returns : tie.Need-returns
+returns-in-6 : tie.Need-returns-in-6
 unfolding act_in choose plain_rows
-returns c = rw c.before.before.match.keys1 (λ t. read_so c.before.read_box.ensures c.word.ensures refl)
+returns-in-6 c = rw c.in-6.is (λ t. read_so c.read_box.ensures c.word.ensures refl)
 
-returns-2 : tie.Need-returns-2
+returns-in-22 : tie.Need-returns-in-22
 unfolding act_in choose plain_rows
-returns-2 c = rw c.before.before.match.keys2 (λ t. read_so c.before.read_cell.ensures c.word2.ensures refl)
+returns-in-22 c = rw c.in-22.is (λ t. read_so c.read_cell.ensures c.word-in-22.ensures refl)
 
-returns-3 : tie.Need-returns-3
+returns-in-47 : tie.Need-returns-in-47
 unfolding act_in choose plain_rows
-returns-3 c = rw c.before.before.match.keys3 (λ t. read_so c.before.cell_type.ensures c.word3.ensures refl)
+returns-in-47 c = rw c.in-47.is (λ t. read_so c.cell_type.ensures c.word-in-47.ensures refl)
 
-returns-4 : tie.Need-returns-4
+returns-in-34 : tie.Need-returns-in-34
 unfolding act_in choose plain_rows
-returns-4 c = rw c.before.before.match.keys4 (λ t. read_so c.before.error_kind.ensures c.word4.ensures refl)
+returns-in-34 c = rw c.in-34.is (λ t. read_so c.error_kind.ensures c.word-in-34.ensures refl)
 
-returns-5 : tie.Need-returns-5
+returns-in-35 : tie.Need-returns-in-35
 unfolding act_in choose plain_rows
-returns-5 c = rw c.before.before.match.keys5 (λ t. read_so c.before.error_word.ensures c.word5.ensures refl)
+returns-in-35 c = rw c.in-35.is (λ t. read_so c.error_word.ensures c.word-in-35.ensures refl)
 
-returns-6 : tie.Need-returns-6
+returns-in-36 : tie.Need-returns-in-36
 unfolding act_in choose plain_rows
-returns-6 c = rw c.before.before.match.keys6 (λ t. read_so c.before.read_integer.ensures c.signed.ensures refl)
+returns-in-36 c = rw c.in-36.is (λ t. read_so c.read_integer.ensures c.signed.ensures refl)
 
-returns-7 : tie.Need-returns-7
+returns-in-37 : tie.Need-returns-in-37
 unfolding act_in choose plain_rows
-returns-7 c = rw c.before.before.match.keys7 (λ t. read_so c.before.string_length.ensures c.word6.ensures refl)
+returns-in-37 c = rw c.in-37.is (λ t. read_so c.string_length.ensures c.word-in-37.ensures refl)
 
-returns-8 : tie.Need-returns-8
+returns-in-39 : tie.Need-returns-in-39
 unfolding act_in choose plain_rows
-returns-8 c = rw c.before.before.match.keys8 (λ t. read_so c.before.get.ensures c.number.ensures refl)
+returns-in-39 c = rw c.in-39.is (λ t. read_so c.get.ensures c.number.ensures refl)
 
-returns-9 : tie.Need-returns-9
+returns-in-40 : tie.Need-returns-in-40
 unfolding act_in choose plain_rows
-returns-9 c = rw c.before.before.match.keys9 (λ t. read_so c.before.deref.ensures c.number2.ensures refl)
+returns-in-40 c = rw c.in-40.is (λ t. read_so c.deref.ensures c.number-in-40.ensures refl)
 
-returns-10 : tie.Need-returns-10
+returns-in-78 : tie.Need-returns-in-78
 unfolding act_in choose plain_rows
-returns-10 c = rw c.before.before.match.keys10 (λ t. read_so c.before.kind_of_word.ensures c.kind.ensures refl)
+returns-in-78 c = rw c.in-78.is (λ t. read_so c.kind_of.ensures c.kind.ensures refl)
 
-returns-11 : tie.Need-returns-11
+returns-in_default : tie.Need-returns-in_default
 unfolding plain_rows
-returns-11 c = λ t. changed-unknown (no_row plain_rows _ _ t c.match.rest)
+returns-in_default c = λ t. changed-unknown (no_row plain_rows _ _ t c.in_default.in_default-own.rest)
 
 pub plain_read_spec : {M : Type 1} → statement M
 plain_read_spec =
     tie.close
     (tie.spec
-    read-box-requires
+    read_box-requires
     word-requires
-    read-cell-requires
-    word-requires-2
-    cell-type-requires
-    word-requires-3
-    error-kind-requires
-    word-requires-4
-    error-word-requires
-    word-requires-5
-    read-integer-requires
+    read_cell-requires
+    word-requires-in-22
+    cell_type-requires
+    word-requires-in-47
+    error_kind-requires
+    word-requires-in-34
+    error_word-requires
+    word-requires-in-35
+    read_integer-requires
     signed-requires
-    string-length-requires
-    word-requires-6
+    string_length-requires
+    word-requires-in-37
     get-requires
     number-requires
     deref-requires
-    number-requires-2
-    kind-of-requires
+    number-requires-in-40
+    kind_of-requires
     kind-requires
-    returns
-    returns-2
-    returns-3
-    returns-4
-    returns-5
-    returns-6
-    returns-7
-    returns-8
-    returns-9
-    returns-10
-    returns-11)
+    returns-in-6
+    returns-in-22
+    returns-in-47
+    returns-in-34
+    returns-in-35
+    returns-in-36
+    returns-in-37
+    returns-in-39
+    returns-in-40
+    returns-in-78
+    returns-in_default)

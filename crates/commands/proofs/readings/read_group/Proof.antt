@@ -7,86 +7,85 @@ use borrow.Author.Rules.{rules}
 use Rattle.commands.proofs.readings.read_group.Statement.{statement}
 use Rattle.commands.proofs.readings.read_group.Tie as tie
 
-word-call-requires : tie.Need-word-call-requires
-word-call-requires c κs = search rules
+word_call-requires : tie.Need-word_call-requires
+word_call-requires c κs = search rules
 
-plain-read-requires : tie.Need-plain-read-requires
-plain-read-requires c κs = search rules
+plain_read-requires : tie.Need-plain_read-requires
+plain_read-requires c κs = search rules
 
-list-read-requires : tie.Need-list-read-requires
-list-read-requires c κs = search rules
+list_read-requires : tie.Need-list_read-requires
+list_read-requires c κs = search rules
 
-coroutine-read-requires : tie.Need-coroutine-read-requires
-coroutine-read-requires c κs = search rules
+coroutine_read-requires : tie.Need-coroutine_read-requires
+coroutine_read-requires c κs = search rules
 
-map-read-requires : tie.Need-map-read-requires
-map-read-requires c κs = search rules
+map_read-requires : tie.Need-map_read-requires
+map_read-requires c κs = search rules
 
-map-number-requires : tie.Need-map-number-requires
-map-number-requires c κs = search rules
+map_number-requires : tie.Need-map_number-requires
+map_number-requires c κs = search rules
 
-iterator-read-requires : tie.Need-iterator-read-requires
-iterator-read-requires c κs = search rules
+iterator_read-requires : tie.Need-iterator_read-requires
+iterator_read-requires c κs = search rules
 
-heap-read-requires : tie.Need-heap-read-requires
-heap-read-requires c κs = search rules
+heap_read-requires : tie.Need-heap_read-requires
+heap_read-requires c κs = search rules
 
-returns : tie.Need-returns
+returns-in-2 : tie.Need-returns-in-2
 unfolding read_rows
-returns c =
-    let start : tie.Start = search in
-    rw c.before.match.keys1 (λ t. c.word-call.ensures _ t start.pre)
+returns-in-2 c =
+    rw c.in-2.is (λ t. c.word_call.ensures _ t c.requires)
 
-returns-2 : tie.Need-returns-2
+returns-in-3 : tie.Need-returns-in-3
 unfolding read_rows
-returns-2 c = rw c.before.match.keys2 c.plain-read.ensures
+returns-in-3 c = rw c.in-3.is c.plain_read.ensures
 
-returns-3 : tie.Need-returns-3
+returns-in-4 : tie.Need-returns-in-4
 unfolding read_rows
-returns-3 c = rw c.before.match.keys3 c.List-read.ensures
+returns-in-4 c = rw c.in-4.is c.list_read.ensures
 
-returns-4 : tie.Need-returns-4
+returns-in-5 : tie.Need-returns-in-5
 unfolding read_rows
-returns-4 c = rw c.before.match.keys4 c.coroutine-read.ensures
+returns-in-5 c = rw c.in-5.is c.coroutine_read.ensures
 
-returns-5 : tie.Need-returns-5
+returns-in-6 : tie.Need-returns-in-6
 unfolding read_rows
-returns-5 c = rw c.before.match.keys5 c.map_read.ensures
+returns-in-6 c = rw c.in-6.is c.map_read.ensures
 
-returns-6 : tie.Need-returns-6
+returns-in-7 : tie.Need-returns-in-7
 unfolding read_rows
-returns-6 c = rw c.before.match.keys6 c.map-number.ensures
+returns-in-7 c = rw c.in-7.is c.map_number.ensures
 
-returns-7 : tie.Need-returns-7
+returns-in-8 : tie.Need-returns-in-8
 unfolding read_rows
-returns-7 c = rw c.before.match.keys7 c.iterator-read.ensures
+returns-in-8 c = rw c.in-8.is c.iterator_read.ensures
 
-returns-8 : tie.Need-returns-8
+returns-in-9 : tie.Need-returns-in-9
 unfolding read_rows
-returns-8 c = rw c.before.match.keys8 c.heap-read.ensures
+returns-in-9 c = rw c.in-9.is c.heap_read.ensures
 
-returns-9 : tie.Need-returns-9
+returns-in_default : tie.Need-returns-in_default
 unfolding read_rows act_in choose
-returns-9 c = rw (eqb_no _ 2 c.match.rest.0.0.0.0.0.0.0.1, eqb_no _ 3 c.match.rest.0.0.0.0.0.0.1, eqb_no _ 4 c.match.rest.0.0.0.0.0.1, eqb_no _ 5 c.match.rest.0.0.0.0.1, eqb_no _ 6 c.match.rest.0.0.0.1, eqb_no _ 7 c.match.rest.0.0.1, eqb_no _ 8 c.match.rest.0.1, eqb_no _ 9 c.match.rest.1) (λ t. changed-unknown refl)
+returns-in_default c = rw (eqb_no _ 2 c.in_default.in_default-own.rest.0.0.0.0.0.0.0.1, eqb_no _ 3 c.in_default.in_default-own.rest.0.0.0.0.0.0.1, eqb_no _ 4 c.in_default.in_default-own.rest.0.0.0.0.0.1, eqb_no _ 5 c.in_default.in_default-own.rest.0.0.0.0.1, eqb_no _ 6 c.in_default.in_default-own.rest.0.0.0.1, eqb_no _ 7 c.in_default.in_default-own.rest.0.0.1, eqb_no _ 8 c.in_default.in_default-own.rest.0.1, eqb_no _ 9 c.in_default.in_default-own.rest.1) (λ t. changed-unknown refl)
 
 pub read_group_spec : {M : Type 1} → statement M
 read_group_spec =
     tie.close
     (tie.spec
-    word-call-requires
-    plain-read-requires
-    list-read-requires
-    coroutine-read-requires
-    map-read-requires
-    map-number-requires
-    iterator-read-requires
-    heap-read-requires
-    returns
-    returns-2
-    returns-3
-    returns-4
-    returns-5
-    returns-6
-    returns-7
-    returns-8
-    returns-9)
+    word_call-requires
+    plain_read-requires
+    list_read-requires
+    coroutine_read-requires
+    map_read-requires
+    map_number-requires
+    iterator_read-requires
+    heap_read-requires
+    returns-in-2
+    returns-in-3
+    returns-in-4
+    returns-in-5
+    returns-in-6
+    returns-in-7
+    returns-in-8
+    returns-in-9
+    returns-in_default)

@@ -6,60 +6,60 @@ use borrow.Author.Rules.{rules}
 use Rattle.script.proofs.lines.accepted_forms.Statement.{statement}
 use Rattle.script.proofs.lines.accepted_forms.Tie as tie
 
-with-forms-requires : tie.Need-with-forms-requires
-with-forms-requires c κs = search rules
+with_forms-requires : tie.Need-with_forms-requires
+with_forms-requires c κs = search rules
 
-with-forms-requires-2 : tie.Need-with-forms-requires-2
-with-forms-requires-2 c κs = search rules
+with_forms-requires-in-1 : tie.Need-with_forms-requires-in-1
+with_forms-requires-in-1 c κs = search rules
 
-with-forms-requires-3 : tie.Need-with-forms-requires-3
-with-forms-requires-3 c κs = search rules
+with_forms-requires-in-2 : tie.Need-with_forms-requires-in-2
+with_forms-requires-in-2 c κs = search rules
 
-with-forms-requires-4 : tie.Need-with-forms-requires-4
-with-forms-requires-4 c κs = search rules
+with_forms-requires-in-3 : tie.Need-with_forms-requires-in-3
+with_forms-requires-in-3 c κs = search rules
 
-cursor-forms-requires : tie.Need-cursor-forms-requires
-cursor-forms-requires c κs = search rules
+cursor_forms-requires : tie.Need-cursor_forms-requires
+cursor_forms-requires c κs = search rules
 
-with-forms-requires-5 : tie.Need-with-forms-requires-5
-with-forms-requires-5 c κs = search rules
+with_forms-requires-in_default : tie.Need-with_forms-requires-in_default
+with_forms-requires-in_default c κs = search rules
 
-returns : tie.Need-returns
+returns-in-0 : tie.Need-returns-in-0
 unfolding accepted_forms form_at
-returns c = rw c.before.match.keys1 c.with-forms.ensures
+returns-in-0 c = rw c.in-0.is c.with_forms.ensures
 
-returns-2 : tie.Need-returns-2
+returns-in-1 : tie.Need-returns-in-1
 unfolding accepted_forms form_at
-returns-2 c = rw c.before.match.keys2 c.with-forms2.ensures
+returns-in-1 c = rw c.in-1.is c.with_forms-in-1.ensures
 
-returns-3 : tie.Need-returns-3
+returns-in-2 : tie.Need-returns-in-2
 unfolding accepted_forms form_at
-returns-3 c = rw c.before.match.keys3 c.with-forms3.ensures
+returns-in-2 c = rw c.in-2.is c.with_forms-in-2.ensures
 
-returns-4 : tie.Need-returns-4
+returns-in-3 : tie.Need-returns-in-3
 unfolding accepted_forms form_at
-returns-4 c = rw c.before.match.keys4 c.with-forms4.ensures
+returns-in-3 c = rw c.in-3.is c.with_forms-in-3.ensures
 
-returns-5 : tie.Need-returns-5
-returns-5 c = rw c.before.match.keys5 c.cursor-forms.ensures
+returns-in-4 : tie.Need-returns-in-4
+returns-in-4 c = rw c.in-4.is c.cursor_forms.ensures
 
-returns-6 : tie.Need-returns-6
+returns-in_default : tie.Need-returns-in_default
 unfolding accepted_forms
-returns-6 c = rw (form_late c.before.before.args.form (omega arith)) c.with-forms5.ensures
+returns-in_default c = rw (form_late c.args.form (omega arith)) c.with_forms-in_default.ensures
 
 pub accepted_forms_spec : {M : Type 1} → statement M
 accepted_forms_spec =
     tie.close
     (tie.spec
-    with-forms-requires
-    with-forms-requires-2
-    with-forms-requires-3
-    with-forms-requires-4
-    cursor-forms-requires
-    with-forms-requires-5
-    returns
-    returns-2
-    returns-3
-    returns-4
-    returns-5
-    returns-6)
+    with_forms-requires
+    with_forms-requires-in-1
+    with_forms-requires-in-2
+    with_forms-requires-in-3
+    cursor_forms-requires
+    with_forms-requires-in_default
+    returns-in-0
+    returns-in-1
+    returns-in-2
+    returns-in-3
+    returns-in-4
+    returns-in_default)

@@ -5,20 +5,20 @@ use borrow.Author.Rules.{rules}
 use Rattle.script.proofs.lines.adjust.Statement.{statement}
 use Rattle.script.proofs.lines.adjust.Tie as tie
 
+returns-then-form-lt5 : tie.Need-returns-then-form-lt5
+returns-then-form-lt5 c = adjusted_early c.args.form c.args.o c.args.s c.if-form-lt5.true
+
+with_last-requires : tie.Need-with_last-requires
+with_last-requires c κs = search rules
+
 returns : tie.Need-returns
-returns c = adjusted_early c.before.args.form c.before.args.o c.before.args.s c.if1.true
-
-with-last-requires : tie.Need-with-last-requires
-with-last-requires c κs = search rules
-
-returns-2 : tie.Need-returns-2
 unfolding adjusted
-returns-2 c = rw (form_late c.before.before.args.form (omega arith)) c.with-last.ensures
+returns c = rw (form_late c.args.form (omega arith)) c.with_last.ensures
 
 pub adjust_spec : {M : Type 1} → statement M
 adjust_spec =
     tie.close
     (tie.spec
-    returns
-    with-last-requires
-    returns-2)
+    returns-then-form-lt5
+    with_last-requires
+    returns)

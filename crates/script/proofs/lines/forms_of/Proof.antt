@@ -7,34 +7,34 @@ use borrow.Author.Rules.{rules}
 use Rattle.script.proofs.lines.forms_of.Statement.{statement}
 use Rattle.script.proofs.lines.forms_of.Tie as tie
 
-accepted-forms-requires : tie.Need-accepted-forms-requires
-accepted-forms-requires c κs = search rules
+accepted_forms-requires : tie.Need-accepted_forms-requires
+accepted_forms-requires c κs = search rules
+
+returns-then-refusal-eq0 : tie.Need-returns-then-refusal-eq0
+unfolding forms_of
+returns-then-refusal-eq0 c = rw c.if-refusal-eq0.true c.accepted_forms.ensures
+
+with_forms-requires : tie.Need-with_forms-requires
+with_forms-requires c κs = search rules
+
+returns-then-form-lt5 : tie.Need-returns-then-form-lt5
+unfolding forms_of
+returns-then-form-lt5 c = rw (ne_eqb c.args.refusal 0 c.if-refusal-eq0.false) (c.with_forms.ensures ∙ refused_early c.args.form c.if-form-lt5.true)
+
+with_forms-requires-2 : tie.Need-with_forms-requires-2
+with_forms-requires-2 c κs = search rules
 
 returns : tie.Need-returns
-unfolding forms_of
-returns c = rw c.before.if1.true c.accepted-forms.ensures
-
-with-forms-requires : tie.Need-with-forms-requires
-with-forms-requires c κs = search rules
-
-returns-2 : tie.Need-returns-2
-unfolding forms_of
-returns-2 c = rw (ne_eqb c.before.before.before.args.refusal 0 c.before.before.if1.false) (c.with-forms.ensures ∙ refused_early c.before.before.before.args.form c.before.if2.true)
-
-with-forms-requires-2 : tie.Need-with-forms-requires-2
-with-forms-requires-2 c κs = search rules
-
-returns-3 : tie.Need-returns-3
 unfolding forms_of refused_forms
-returns-3 c = rw (ne_eqb c.before.before.before.args.refusal 0 c.before.before.if1.false, form_late c.before.before.before.args.form (omega arith)) c.with-forms2.ensures
+returns c = rw (ne_eqb c.args.refusal 0 c.if-refusal-eq0.false, form_late c.args.form (omega arith)) c.with_forms-2.ensures
 
 pub forms_of_spec : {M : Type 1} → statement M
 forms_of_spec =
     tie.close
     (tie.spec
-    accepted-forms-requires
-    returns
-    with-forms-requires
-    returns-2
-    with-forms-requires-2
-    returns-3)
+    accepted_forms-requires
+    returns-then-refusal-eq0
+    with_forms-requires
+    returns-then-form-lt5
+    with_forms-requires-2
+    returns)

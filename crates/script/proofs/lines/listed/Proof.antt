@@ -1,4 +1,4 @@
-use mathlib.Core.Path.{refl, sym, ◌∙◌}
+use mathlib.Core.Path.{sym, ◌∙◌}
 use lib.ListN.{length}
 use lib.Seq.{take_all}
 use native.Mathlib.Omega.{arith}
@@ -6,11 +6,15 @@ use borrow.Author.Rules.{rules}
 use Rattle.script.proofs.lines.listed.Statement.{statement}
 use Rattle.script.proofs.lines.listed.Tie as tie
 
-returns : tie.Need-returns
-returns c = search rules
+returns-then-n-places : tie.Need-returns-then-n-places
+returns-then-n-places c = search rules
 
-returns-2 : tie.Need-returns-2
-returns-2 c = (take_all (length c.before.args.places.now) c.before.args.places.now (omega arith) ∙ sym (take_all c.before.args.x c.before.args.places.now (omega arith)), omega arith)
+returns : tie.Need-returns
+returns c = (take_all (length c.args.places.now) c.args.places.now (omega arith) ∙ sym (take_all c.args.x c.args.places.now (omega arith)), omega arith)
 
 pub listed_spec : {M : Type 1} → statement M
-listed_spec = tie.close (tie.spec returns returns-2)
+listed_spec =
+    tie.close
+    (tie.spec
+    returns-then-n-places
+    returns)

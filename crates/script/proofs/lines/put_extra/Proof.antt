@@ -6,36 +6,36 @@ use borrow.Author.Rules.{rules}
 use Rattle.script.proofs.lines.put_extra.Statement.{statement}
 use Rattle.script.proofs.lines.put_extra.Tie as tie
 
-put-field-requires : tie.Need-put-field-requires
-put-field-requires c κs = search rules
+put_field-a-requires : tie.Need-put_field-a-requires
+put_field-a-requires c κs = search rules
 
-put-field-requires-2 : tie.Need-put-field-requires-2
-put-field-requires-2 c κs = omega (arith, c.before.before.before.put_field.ensures.ends, c.before.before.before.put_field.ensures.size, length-field c.before.before.before.before.before.before.args.f.x c.before.before.before.before.before.before.args.s.x)
+put_field-b-requires : tie.Need-put_field-b-requires
+put_field-b-requires c κs = omega (arith, c.put_field-a.ensures.ends, c.put_field-a.ensures.size, length-field c.args.f.x c.args.s.x)
 
-put-field-requires-3 : tie.Need-put-field-requires-3
-put-field-requires-3 c κs = omega (arith, c.before.before.before.before.before.before.before.put_field.ensures.ends, c.before.before.before.before.before.before.before.put_field.ensures.size, length-field c.before.before.before.before.before.before.before.before.before.before.args.f.x c.before.before.before.before.before.before.before.before.before.before.args.s.x, c.before.before.before.put-field2.ensures.ends, c.before.before.before.put-field2.ensures.size, length-field c.before.before.before.before.before.before.before.before.before.before.args.f.y c.before.before.before.before.before.before.before.before.before.before.args.s.y)
+put_field-c-requires : tie.Need-put_field-c-requires
+put_field-c-requires c κs = omega (arith, c.put_field-a.ensures.ends, c.put_field-a.ensures.size, length-field c.args.f.x c.args.s.x, c.put_field-b.ensures.ends, c.put_field-b.ensures.size, length-field c.args.f.y c.args.s.y)
 
-put-field-requires-4 : tie.Need-put-field-requires-4
-put-field-requires-4 c κs = omega (arith, c.before.before.before.before.before.before.before.before.before.before.before.put_field.ensures.ends, c.before.before.before.before.before.before.before.before.before.before.before.put_field.ensures.size, length-field c.before.before.before.before.before.before.before.before.before.before.before.before.before.before.args.f.x c.before.before.before.before.before.before.before.before.before.before.before.before.before.before.args.s.x, c.before.before.before.before.before.before.before.put-field2.ensures.ends, c.before.before.before.before.before.before.before.put-field2.ensures.size, length-field c.before.before.before.before.before.before.before.before.before.before.before.before.before.before.args.f.y c.before.before.before.before.before.before.before.before.before.before.before.before.before.before.args.s.y, c.before.before.before.put-field3.ensures.ends, c.before.before.before.put-field3.ensures.size, length-field c.before.before.before.before.before.before.before.before.before.before.before.before.before.before.args.f.z c.before.before.before.before.before.before.before.before.before.before.before.before.before.before.args.s.z)
+put_field-d-requires : tie.Need-put_field-d-requires
+put_field-d-requires c κs = omega (arith, c.put_field-a.ensures.ends, c.put_field-a.ensures.size, length-field c.args.f.x c.args.s.x, c.put_field-b.ensures.ends, c.put_field-b.ensures.size, length-field c.args.f.y c.args.s.y, c.put_field-c.ensures.ends, c.put_field-c.ensures.size, length-field c.args.f.z c.args.s.z)
 
-put-field-requires-5 : tie.Need-put-field-requires-5
-put-field-requires-5 c κs = omega (arith, c.before.before.before.before.before.before.before.before.before.before.before.before.before.before.before.put_field.ensures.ends, c.before.before.before.before.before.before.before.before.before.before.before.before.before.before.before.put_field.ensures.size, length-field c.before.before.before.before.before.before.before.before.before.before.before.before.before.before.before.before.before.before.args.f.x c.before.before.before.before.before.before.before.before.before.before.before.before.before.before.before.before.before.before.args.s.x, c.before.before.before.before.before.before.before.before.before.before.before.put-field2.ensures.ends, c.before.before.before.before.before.before.before.before.before.before.before.put-field2.ensures.size, length-field c.before.before.before.before.before.before.before.before.before.before.before.before.before.before.before.before.before.before.args.f.y c.before.before.before.before.before.before.before.before.before.before.before.before.before.before.before.before.before.before.args.s.y, c.before.before.before.before.before.before.before.put-field3.ensures.ends, c.before.before.before.before.before.before.before.put-field3.ensures.size, length-field c.before.before.before.before.before.before.before.before.before.before.before.before.before.before.before.before.before.before.args.f.z c.before.before.before.before.before.before.before.before.before.before.before.before.before.before.before.before.before.before.args.s.z, c.before.before.before.put-field4.ensures.ends, c.before.before.before.put-field4.ensures.size, length-field c.before.before.before.before.before.before.before.before.before.before.before.before.before.before.before.before.before.before.args.f.u c.before.before.before.before.before.before.before.before.before.before.before.before.before.before.before.before.before.before.args.s.u)
+put_field-requires : tie.Need-put_field-requires
+put_field-requires c κs = omega (arith, c.put_field-a.ensures.ends, c.put_field-a.ensures.size, length-field c.args.f.x c.args.s.x, c.put_field-b.ensures.ends, c.put_field-b.ensures.size, length-field c.args.f.y c.args.s.y, c.put_field-c.ensures.ends, c.put_field-c.ensures.size, length-field c.args.f.z c.args.s.z, c.put_field-d.ensures.ends, c.put_field-d.ensures.size, length-field c.args.f.u c.args.s.u)
 
-same_length : tie.Need-same-length
-same_length c = search rules
+shape_of-out : tie.Need-shape_of-out
+shape_of-out c = search rules
 
 returns : tie.Need-returns
 unfolding extra_text
-returns c = puts-append c.before.before.before.before.before.before.before.before.before.before.before.before.before.before.before.before.before.before.put_field.ensures (puts-append c.before.before.before.before.before.before.before.before.before.before.before.before.before.before.put-field2.ensures (puts-append c.before.before.before.before.before.before.before.before.before.before.put-field3.ensures (puts-append c.before.before.before.before.before.before.put-field4.ensures c.before.before.put-field5.ensures)))
+returns c = puts-append c.put_field-a.ensures (puts-append c.put_field-b.ensures (puts-append c.put_field-c.ensures (puts-append c.put_field-d.ensures c.put_field.ensures)))
 
 pub put_extra_spec : {M : Type 1} → statement M
 put_extra_spec =
     tie.close
     (tie.spec
-    put-field-requires
-    put-field-requires-2
-    put-field-requires-3
-    put-field-requires-4
-    put-field-requires-5
-    same_length
+    put_field-a-requires
+    put_field-b-requires
+    put_field-c-requires
+    put_field-d-requires
+    put_field-requires
+    shape_of-out
     returns)

@@ -5,38 +5,38 @@ use borrow.Author.Rules.{rules}
 use Rattle.script.proofs.lines.put_field.Statement.{statement}
 use Rattle.script.proofs.lines.put_field.Tie as tie
 
-put-spaced-decimal-requires : tie.Need-put-spaced-decimal-requires
-put-spaced-decimal-requires c κs = search rules
+put_spaced_decimal-requires : tie.Need-put_spaced_decimal-requires
+put_spaced_decimal-requires c κs = search rules
 
-put-spaced-hex-requires : tie.Need-put-spaced-hex-requires
-put-spaced-hex-requires c κs = search rules
+put_spaced_hex-requires : tie.Need-put_spaced_hex-requires
+put_spaced_hex-requires c κs = search rules
 
-returns : tie.Need-returns
+returns-in-0 : tie.Need-returns-in-0
 unfolding field_text
-returns c = rw c.match.keys1 (puts_none _ _)
+returns-in-0 c = rw c.in-0.is (puts_none _ _)
 
-same_length : tie.Need-same-length
-same_length c = search rules
+shape_of-out-in-1 : tie.Need-shape_of-out-in-1
+shape_of-out-in-1 c = search rules
 
-returns-2 : tie.Need-returns-2
+returns-in-1 : tie.Need-returns-in-1
 unfolding field_text
-returns-2 c = rw c.before.before.before.before.match.keys2 c.before.before.put-spaced-decimal.ensures
+returns-in-1 c = rw c.in-1.is c.put_spaced_decimal.ensures
 
-same-length-2 : tie.Need-same-length-2
-same-length-2 c = search rules
+shape_of-out-in_default : tie.Need-shape_of-out-in_default
+shape_of-out-in_default c = search rules
 
-returns-3 : tie.Need-returns-3
+returns-in_default : tie.Need-returns-in_default
 unfolding field_text
-returns-3 c = rw (ne_eqb c.before.before.before.before.before.before.args.form 0 c.before.before.before.before.match.rest.0.1, ne_eqb c.before.before.before.before.before.before.args.form 1 c.before.before.before.before.match.rest.1) c.before.before.put-spaced-hex.ensures
+returns-in_default c = rw (ne_eqb c.args.form 0 c.in_default.in_default-own.rest.0.1, ne_eqb c.args.form 1 c.in_default.in_default-own.rest.1) c.put_spaced_hex.ensures
 
 pub put_field_spec : {M : Type 1} → statement M
 put_field_spec =
     tie.close
     (tie.spec
-    put-spaced-decimal-requires
-    put-spaced-hex-requires
-    returns
-    same_length
-    returns-2
-    same-length-2
-    returns-3)
+    put_spaced_decimal-requires
+    put_spaced_hex-requires
+    returns-in-0
+    shape_of-out-in-1
+    returns-in-1
+    shape_of-out-in_default
+    returns-in_default)

@@ -9,65 +9,59 @@ use borrow.Author.Rules.{rules}
 use Rattle.script.proofs.lines.put_lent.Statement.{statement}
 use Rattle.script.proofs.lines.put_lent.Tie as tie
 
-put-buffer-requires : tie.Need-put-buffer-requires
-put-buffer-requires c κs = search rules
+put_buffer-requires : tie.Need-put_buffer-requires
+put_buffer-requires c κs = search rules
 
-put-list-requires : tie.Need-put-list-requires
-put-list-requires c κs = search rules
+put_list-requires : tie.Need-put_list-requires
+put_list-requires c κs = search rules
 
-listed-requires : tie.Need-listed-requires
-listed-requires c κs = search rules
+listed-n-requires : tie.Need-listed-n-requires
+listed-n-requires c κs = search rules
 
-slice-aggregate-put-list : tie.Need-slice-aggregate-put-list
-slice-aggregate-put-list c = let at_n : tie.After-listed = search in
-    let start : tie.Start = search in
-    sym (length-take-le at_n.listed.result start.args.places.now at_n.listed.ensures.1)
+slice_bounds-put_list-end : tie.Need-slice_bounds-put_list-end
+slice_bounds-put_list-end c = sym (length-take-le c.listed-n.result c.args.places.now c.listed-n.ensures.1)
 
-put-list-requires-2 : tie.Need-put-list-requires-2
-put-list-requires-2 c κs = let at_n : tie.After-listed = search in
-    let start : tie.Start = search in
-    omega (arith, start.pre, length-take-le at_n.listed.result start.args.places.now at_n.listed.ensures.1, at_n.listed.ensures.1)
+put_list-requires-in_default : tie.Need-put_list-requires-in_default
+put_list-requires-in_default c κs = omega (arith, c.requires, length-take-le c.listed-n.result c.args.places.now c.listed-n.ensures.1, c.listed-n.ensures.1)
 
-returns : tie.Need-returns
+returns-in-0 : tie.Need-returns-in-0
 unfolding lent_text memory_at
-returns c = rw c.match.keys1 (puts_none _ _)
+returns-in-0 c = rw c.in-0.is (puts_none _ _)
 
-same_length : tie.Need-same-length
-same_length c = search rules
+shape_of-out-in-1 : tie.Need-shape_of-out-in-1
+shape_of-out-in-1 c = search rules
 
-returns-2 : tie.Need-returns-2
+returns-in-1 : tie.Need-returns-in-1
 unfolding lent_text memory_at
-returns-2 c = rw c.before.before.before.before.match.keys2 c.before.before.put-buffer.ensures
+returns-in-1 c = rw c.in-1.is c.put_buffer.ensures
 
-same-length-2 : tie.Need-same-length-2
-same-length-2 c = search rules
+shape_of-out-in-2 : tie.Need-shape_of-out-in-2
+shape_of-out-in-2 c = search rules
 
-returns-3 : tie.Need-returns-3
+returns-in-2 : tie.Need-returns-in-2
 unfolding lent_text memory_at
-returns-3 c = rw c.before.before.before.before.match.keys3 c.before.before.put-list.ensures
+returns-in-2 c = rw c.in-2.is c.put_list.ensures
 
-same-length-3 : tie.Need-same-length-3
-same-length-3 c = search rules
+shape_of-out-in_default : tie.Need-shape_of-out-in_default
+shape_of-out-in_default c = search rules
 
-returns-4 : tie.Need-returns-4
+returns-in_default : tie.Need-returns-in_default
 unfolding lent_text
-returns-4 c = let at_n : tie.After-listed = search in
-    let start : tie.Start = search in
-    rw (memory_late start.args.memory (omega arith), ← at_n.listed.ensures.0) c.before.before.put-list2.ensures
+returns-in_default c = rw (memory_late c.args.memory (omega arith), ← c.listed-n.ensures.0) c.put_list-in_default.ensures
 
 pub put_lent_spec : {M : Type 1} → statement M
 put_lent_spec =
     tie.close
     (tie.spec
-    put-buffer-requires
-    put-list-requires
-    listed-requires
-    slice-aggregate-put-list
-    put-list-requires-2
-    returns
-    same_length
-    returns-2
-    same-length-2
-    returns-3
-    same-length-3
-    returns-4)
+    put_buffer-requires
+    put_list-requires
+    listed-n-requires
+    slice_bounds-put_list-end
+    put_list-requires-in_default
+    returns-in-0
+    shape_of-out-in-1
+    returns-in-1
+    shape_of-out-in-2
+    returns-in-2
+    shape_of-out-in_default
+    returns-in_default)

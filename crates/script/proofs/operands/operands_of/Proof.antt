@@ -4,29 +4,29 @@ use borrow.Author.Rules.{rules}
 use Rattle.script.proofs.operands.operands_of.Statement.{statement}
 use Rattle.script.proofs.operands.operands_of.Tie as tie
 
-shared-slice-read-t3 : tie.Need-shared-slice-read-t3
-shared-slice-read-t3 c = search rules
+bounds-numbers-0 : tie.Need-bounds-numbers-0
+bounds-numbers-0 c = search rules
 
-shared-slice-read-t5 : tie.Need-shared-slice-read-t5
-shared-slice-read-t5 c = search rules
+bounds-numbers-1 : tie.Need-bounds-numbers-1
+bounds-numbers-1 c = search rules
 
-shared-slice-read-t7 : tie.Need-shared-slice-read-t7
-shared-slice-read-t7 c = search rules
+bounds-numbers-2 : tie.Need-bounds-numbers-2
+bounds-numbers-2 c = search rules
 
-shared-slice-read-t9 : tie.Need-shared-slice-read-t9
-shared-slice-read-t9 c = search rules
+bounds-numbers-3 : tie.Need-bounds-numbers-3
+bounds-numbers-3 c = search rules
 
-shared-slice-read-t11 : tie.Need-shared-slice-read-t11
-shared-slice-read-t11 c = search rules
+bounds-numbers-4 : tie.Need-bounds-numbers-4
+bounds-numbers-4 c = search rules
 
-shared-slice-read-t13 : tie.Need-shared-slice-read-t13
-shared-slice-read-t13 c = search rules
+bounds-numbers-5 : tie.Need-bounds-numbers-5
+bounds-numbers-5 c = search rules
 
-shared-slice-read-t15 : tie.Need-shared-slice-read-t15
-shared-slice-read-t15 c = search rules
+bounds-numbers-6 : tie.Need-bounds-numbers-6
+bounds-numbers-6 c = search rules
 
-shared-slice-read-t17 : tie.Need-shared-slice-read-t17
-shared-slice-read-t17 c = search rules
+bounds-numbers-7 : tie.Need-bounds-numbers-7
+bounds-numbers-7 c = search rules
 
 returns : tie.Need-returns
 unfolding operands_of
@@ -36,12 +36,12 @@ pub operands_of_spec : {M : Type 1} → statement M
 operands_of_spec =
     tie.close
     (tie.spec
-    shared-slice-read-t3
-    shared-slice-read-t5
-    shared-slice-read-t7
-    shared-slice-read-t9
-    shared-slice-read-t11
-    shared-slice-read-t13
-    shared-slice-read-t15
-    shared-slice-read-t17
+    bounds-numbers-0
+    bounds-numbers-1
+    bounds-numbers-2
+    bounds-numbers-3
+    bounds-numbers-4
+    bounds-numbers-5
+    bounds-numbers-6
+    bounds-numbers-7
     returns)

@@ -4,43 +4,43 @@ use borrow.Author.Rules.{rules}
 use Rattle.script.proofs.operands.read_call.Statement.{statement}
 use Rattle.script.proofs.operands.read_call.Tie as tie
 
-shared-slice-read-take-fields : tie.Need-shared-slice-read-take-fields
-shared-slice-read-take-fields c = search rules
+bounds-input-at : tie.Need-bounds-input-at
+bounds-input-at c = search rules
 
-add-take-fields : tie.Need-overflow-add-take-fields
-add-take-fields c = search rules
+overflow_add-at : tie.Need-overflow_add-at
+overflow_add-at c = search rules
 
-slice-aggregate-take-fields : tie.Need-slice-aggregate-take-fields
-slice-aggregate-take-fields c = search rules
+slice_bounds-take_fields-end : tie.Need-slice_bounds-take_fields-end
+slice_bounds-take_fields-end c = search rules
 
-take-fields-requires : tie.Need-take-fields-requires
-take-fields-requires c κs = ((omega arith, omega arith, omega arith), zeros_at 9)
+take_fields-t-requires : tie.Need-take_fields-t-requires
+take_fields-t-requires c κs = ((omega arith, omega arith, omega arith), zeros_at 9)
 
-slice-aggregate-operands-of : tie.Need-slice-aggregate-operands-of
-slice-aggregate-operands-of c = search rules
+slice_bounds-operands_of-end : tie.Need-slice_bounds-operands_of-end
+slice_bounds-operands_of-end c = search rules
 
-operands-of-requires : tie.Need-operands-of-requires
-operands-of-requires c κs = search rules
+operands_of-operands-requires : tie.Need-operands_of-operands-requires
+operands_of-operands-requires c κs = search rules
 
-sub-t9 : tie.Need-overflow-sub-t9
-sub-t9 c = search rules
+overflow_sub-result : tie.Need-overflow_sub-result
+overflow_sub-result c = search rules
 
-same_length : tie.Need-same-length
-same_length c = search rules
+shape_of-words : tie.Need-shape_of-words
+shape_of-words c = search rules
 
 returns : tie.Need-returns
-returns c = reads_call (c.before.before.before.before.before.before.take-fields.new.1.1.1.0) c.before.before.before.before.before.before.before.before.before.before.before.before.args.at c.before.before.before.before.before.before.take-fields.ensures.0 c.before.before.before.before.before.before.take-fields.ensures.1.0 c.before.operands_of.ensures c.before.before.before.before.before.before.take-fields.ensures.1.1
+returns c = reads_call c.take_fields-t.new.numbers c.args.at c.take_fields-t.ensures.0 c.take_fields-t.ensures.1.0 c.operands_of-operands.ensures c.take_fields-t.ensures.1.1
 
 pub read_call_spec : {M : Type 1} → statement M
 read_call_spec =
     tie.close
     (tie.spec
-    shared-slice-read-take-fields
-    add-take-fields
-    slice-aggregate-take-fields
-    take-fields-requires
-    slice-aggregate-operands-of
-    operands-of-requires
-    sub-t9
-    same_length
+    bounds-input-at
+    overflow_add-at
+    slice_bounds-take_fields-end
+    take_fields-t-requires
+    slice_bounds-operands_of-end
+    operands_of-operands-requires
+    overflow_sub-result
+    shape_of-words
     returns)

@@ -4,55 +4,55 @@ use borrow.Author.Rules.{rules}
 use Rattle.script.proofs.operands.take_number.Statement.{statement}
 use Rattle.script.proofs.operands.take_number.Tie as tie
 
-sub-if1 : tie.Need-overflow-sub-if1
-sub-if1 c = search rules
+overflow_sub-input : tie.Need-overflow_sub-input
+overflow_sub-input c = search rules
 
 missing-requires : tie.Need-missing-requires
 missing-requires c κs = search rules
 
+returns-then-input-at : tie.Need-returns-then-input-at
+returns-then-input-at c = λ ws. number_short c.args.size c.args.most c.missing.ensures c.if-input-at.true
+
+read_little-x-requires : tie.Need-read_little-x-requires
+read_little-x-requires c κs = search rules
+
+missing-requires-then-most-x : tie.Need-missing-requires-then-most-x
+missing-requires-then-most-x c κs = search rules
+
+returns-then-most-x : tie.Need-returns-then-most-x
+returns-then-most-x c = λ ws. number-large c.args.size c.args.most c.missing-then-most-x.ensures (omega arith) c.read_little-x.ensures c.if-most-x.true
+
+offset_bounds-numbers-n : tie.Need-offset_bounds-numbers-n
+offset_bounds-numbers-n c = search rules
+
+bounds-numbers-n : tie.Need-bounds-numbers-n
+bounds-numbers-n c = search rules
+
+overflow_add-result : tie.Need-overflow_add-result
+overflow_add-result c = search rules
+
+overflow_add-result-2 : tie.Need-overflow_add-result-2
+overflow_add-result-2 c = search rules
+
+shape_of-numbers : tie.Need-shape_of-numbers
+shape_of-numbers c = search rules
+
 returns : tie.Need-returns
-returns c = λ ws. number_short c.before.before.before.before.args.size c.before.before.before.before.args.most c.missing.ensures (c.before.if1.true)
-
-read-little-requires : tie.Need-read-little-requires
-read-little-requires c κs = search rules
-
-missing-requires-2 : tie.Need-missing-requires-2
-missing-requires-2 c κs = search rules
-
-returns-2 : tie.Need-returns-2
-returns-2 c = λ ws. number-large c.before.before.before.before.before.before.args.size c.before.before.before.before.before.before.args.most c.missing2.ensures (omega arith) c.before.before.read-little.ensures (c.before.if2.true)
-
-mul-numbers : tie.Need-overflow-mul-numbers
-mul-numbers c = search rules
-
-slice-write-numbers : tie.Need-slice-write-numbers
-slice-write-numbers c = search rules
-
-add-t10 : tie.Need-overflow-add-t10
-add-t10 c = search rules
-
-add-t9 : tie.Need-overflow-add-t9
-add-t9 c = search rules
-
-same_length : tie.Need-same-length
-same_length c = search rules
-
-returns-3 : tie.Need-returns-3
-returns-3 c = λ ws. number-taken c.before.before.before.before.before.args.size c.before.before.before.before.before.args.most (omega arith) (omega arith) (omega arith) c.before.read-little.ensures (omega arith)
+returns c = λ ws. number-taken c.args.size c.args.most (omega arith) (omega arith) (omega arith) c.read_little-x.ensures (omega arith)
 
 pub take_number_spec : {M : Type 1} → statement M
 take_number_spec =
     tie.close
     (tie.spec
-    sub-if1
+    overflow_sub-input
     missing-requires
-    returns
-    read-little-requires
-    missing-requires-2
-    returns-2
-    mul-numbers
-    slice-write-numbers
-    add-t10
-    add-t9
-    same_length
-    returns-3)
+    returns-then-input-at
+    read_little-x-requires
+    missing-requires-then-most-x
+    returns-then-most-x
+    offset_bounds-numbers-n
+    bounds-numbers-n
+    overflow_add-result
+    overflow_add-result-2
+    shape_of-numbers
+    returns)
