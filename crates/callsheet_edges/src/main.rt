@@ -1,16 +1,16 @@
 // Document 01's program `callsheet`: reads the first 65,536 bytes of standard input, and prints a
 // line for each command.
-use libc::{STDIN_FILENO, STDOUT_FILENO};
-use sheet::Printed;
+#![tactic(auto)]
 
-fn main() {
-    let mut input = io::large_buffer();
-    let n = io::read_full(STDIN_FILENO, &mut input);
+use sheet::Printed;
+use std::io;
+
+fn main(rt: HostRuntime) -> io::Result<()> {
+    let mut input = [0u8; 65536];
+    let n = streams::read_full(&mut rt.stdin(), &mut input)?;
     let mut out = sheet::text_buffer();
     match sheet::run(&input[..n], &mut out) {
-        Printed::Text(end) => {
-            io::write_all(STDOUT_FILENO, &out[..end]);
-        }
-        Printed::Short => {}
+        Printed::Text(end) => rt.write_all(&out[..end]),
+        Printed::Short => Ok(()),
     }
 }

@@ -1,13 +1,9 @@
--- A number's line lies in its buffer; an accepted opening is a good heap. Assumes nothing.
-use Prim.Native.Nat.{ℕ, ◌≤◌}
+-- An accepted opening is a good heap. Assumes nothing.
+use Prim.Native.Nat.{ℕ}
 use mathlib.Core.Path.{◌≡◌, refl}
 use mathlib.Core.Bool.{Bool, true, false}
-use mathlib.Core.List.{List, ◌∷◌}
+use mathlib.Core.List.{List}
 use native.Mathlib.Omega.{arith}
-use lib.ListN.{length}
-use Rattle.text.specs.Puts.{Puts}
-use Rattle.text.proofs.DigitsLaws.{decimal_most}
-use Rattle.model.specs.Callsheet.{decimal}
 use Rattle.model.specs.Opening.{Opening}
 use Rattle.heap.specs.declared.Heap.{Heap}
 use Rattle.heap.specs.declared.Opened.{Opened}
@@ -15,9 +11,6 @@ use Rattle.heap.specs.declared.Opened.TheVariants.{Ready}
 use Rattle.heap.specs.State.{state}
 use Rattle.heap.specs.Good.{Good}
 use Rattle.heap.specs.Opens.{Beside, Opens, accepts, opened_by}
-
-pub number-within : (w : ℕ) {r : ℕ} {out out' : List ℕ} → Puts (32 ∷ decimal w) out 0 out' r → length out ≡ 21 → r ≤ length out'
-number-within w p h = omega (arith, p.ends, p.size, decimal_most w)
 
 ready_so : (b : Bool) (h d : Heap) → Ready h ≡ opened_by b d → (b ≡ true) × (d ≡ h)
 unfolding opened_by

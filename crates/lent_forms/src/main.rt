@@ -1,11 +1,13 @@
 // Document 01's lent forms, reached by a program: frames as a lent list of records, and a cursor that
 // is lent and moved by `next`. Prints a new coroutine's frames as they are read back, then each step
 // of the cursor over a map of three entries.
+#![tactic(auto)]
+
 ghost use Rattle.std.specs.Prelude.{◌≡◌};
 ghost use Rattle.map_store.specs.View.{cursor_is};
 ghost use Rattle.model.specs.Calls as Calls;
 ghost use Rattle.heap.specs.Answers.{made_is};
-ghost use Rattle.heap.specs.State.{after, before, lent};
+ghost use Rattle.heap.specs.State.{state};
 ghost use Rattle.heap.specs.Good.{Good};
 ghost use Rattle.heap.specs.Promise.{Performs, Reads};
 ghost use Rattle.heap_allocation.specs.Coroutines.{call_of};
@@ -15,12 +17,12 @@ use collections_growth::Perhaps;
 use heap::{Done, Heap, Made, Opened, Reading, Refusal};
 use heap_access::FrameRead;
 use heap_allocation::Coroutine;
-use libc::STDOUT_FILENO;
 use map_store::{Cursor, Last};
 use model::{Frame, Weights};
+use std::io;
 
 // The cursor after a step, and the answer.
-#[derive(Drop)]
+#[derive(Clone, Copy)]
 struct Moved {
     cursor: Cursor,
     answer: Perhaps,
@@ -39,8 +41,8 @@ fn made_from(
     registers: &[u64],
     frames: [Frame; 2],
 ) -> Made
-    requires { Good (lent heap slots scalars list directory cells) }
-    ensures { Performs (call_of k registers.now frames) (before heap slots scalars list directory cells) (made_is result.answer) (after result.heap slots scalars list directory cells) }
+    requires { Good (state heap slots.old scalars.old list.now directory.old cells.old) }
+    ensures { Performs (call_of k registers.now frames) (state heap slots.old scalars.old list.now directory.old cells.old) (made_is result.answer) (state result.heap slots.new scalars.new list.now directory.new cells.new) }
 {
     heap_allocation::new_coroutine(
         heap, slots, scalars, list, directory, cells, k, registers, &frames,
@@ -57,8 +59,8 @@ fn next_from(
     w: u64,
     c: Cursor,
 ) -> Moved
-    requires { Good (lent heap slots scalars list directory cells) }
-    ensures { Reads (Calls.next w (cursor_is c)) (before heap slots scalars list directory cells) (lent_seen (cursor_is result.cursor) result.answer) }
+    requires { Good (state heap slots.now scalars.now list.now directory.now cells.now) }
+    ensures { Reads (Calls.next w (cursor_is c)) (state heap slots.now scalars.now list.now directory.now cells.now) (lent_seen (cursor_is result.cursor) result.answer) }
 {
     let mut cursor = c;
     let answer = collections_maps::next(
@@ -76,20 +78,21 @@ fn next_from(
 
 // ---- lines
 
-fn print_number(n: u64) {
+fn print_number(rt: &impl Print, n: u64) -> io::Result<()> {
     let mut out = [0u8; 21];
     let end = text::put_spaced_decimal(&mut out, 0, n);
-    io::write_all(STDOUT_FILENO, &out[..end]);
+    rt.write_all(&out[..end])
 }
 
-fn print_refusal(q: Refusal) {
-    io::write_all(STDOUT_FILENO, b"refused");
-    print_number(heap::number_of(q));
-    io::write_all(STDOUT_FILENO, b"\n");
+fn print_refusal(rt: &impl Print, q: Refusal) -> io::Result<()> {
+    rt.write_all(b"refused")?;
+    print_number(rt, heap::number_of(q))?;
+    rt.write_all(b"\n")
 }
 
 // Function, counter, base, closure; or the refusal.
 fn print_frame(
+    rt: &impl Print,
     heap: Heap,
     slots: &[u64],
     scalars: &[u64],
@@ -98,49 +101,45 @@ fn print_frame(
     cells: &[u64],
     w: u64,
     i: u64,
-)
-    requires { Good (lent heap slots scalars list directory cells) }
+) -> io::Result<()>
+    requires { Good (state heap slots.now scalars.now list.now directory.now cells.now) }
 {
     match heap_access::readings::read_frame(heap, slots, scalars, list, directory, cells, w, i) {
-        FrameRead::Refused(q) => print_refusal(q),
+        FrameRead::Refused(q) => print_refusal(rt, q),
         FrameRead::Is(f) => {
-            io::write_all(STDOUT_FILENO, b"frame");
-            print_number(f.function);
-            print_number(f.counter);
-            print_number(f.base);
-            print_number(f.closure);
-            io::write_all(STDOUT_FILENO, b"\n");
+            rt.write_all(b"frame")?;
+            print_number(rt, f.function)?;
+            print_number(rt, f.counter)?;
+            print_number(rt, f.base)?;
+            print_number(rt, f.closure)?;
+            rt.write_all(b"\n")
         }
     }
 }
 
 // The sequence number yielded last, if any; position, epoch.
-fn print_cursor(c: Cursor) {
+fn print_cursor(rt: &impl Print, c: Cursor) -> io::Result<()> {
     let last = c.last;
-    io::write_all(STDOUT_FILENO, b" cursor");
+    rt.write_all(b" cursor")?;
     match last {
-        Last::Never => {
-            io::write_all(STDOUT_FILENO, b" never");
-        },
-        Last::Seq(n) => print_number(n),
+        Last::Never => rt.write_all(b" never")?,
+        Last::Seq(n) => print_number(rt, n)?,
     }
-    print_number(c.pos as u64);
-    print_number(c.epoch as u64);
-    io::write_all(STDOUT_FILENO, b"\n");
+    print_number(rt, c.pos as u64)?;
+    print_number(rt, c.epoch as u64)?;
+    rt.write_all(b"\n")
 }
 
-fn print_answer(a: Perhaps) {
+fn print_answer(rt: &impl Print, a: Perhaps) -> io::Result<()> {
     match a {
         Perhaps::Is(pos) => {
-            io::write_all(STDOUT_FILENO, b"at");
-            print_number(pos);
-        },
-        Perhaps::Absent => {
-            io::write_all(STDOUT_FILENO, b"end");
-        },
+            rt.write_all(b"at")?;
+            print_number(rt, pos)
+        }
+        Perhaps::Absent => rt.write_all(b"end"),
         Perhaps::Refused(q) => {
-            io::write_all(STDOUT_FILENO, b"refused");
-            print_number(heap::number_of(q));
+            rt.write_all(b"refused")?;
+            print_number(rt, heap::number_of(q))
         }
     }
 }
@@ -165,15 +164,16 @@ fn two_frames() -> [Frame; 2] {
 
 // A coroutine of two frames; a third is not there.
 fn coroutine(
-    heap: Heap,
+    rt: &impl Print,
+    heap: &mut Heap,
     slots: &mut [u64],
     scalars: &mut [u64],
     list: &[u64],
     directory: &mut [u64],
     cells: &mut [u64],
-) -> Heap
-    requires { Good (lent heap slots scalars list directory cells) }
-    ensures { Good (after result slots scalars list directory cells) }
+) -> io::Result<()>
+    requires { Good (state heap.old slots.old scalars.old list.now directory.old cells.old) }
+    ensures { Good (state heap.new slots.new scalars.new list.now directory.new cells.new) }
 {
     let k = Coroutine {
         state: 2,
@@ -186,23 +186,23 @@ fn coroutine(
     let registers = [0u64; 3];
     let frames = two_frames();
     let m = made_from(
-        heap, slots, scalars, list, directory, cells, k, &registers, frames,
+        *heap, slots, scalars, list, directory, cells, k, &registers, frames,
     );
-    let h = m.heap;
+    *heap = m.heap;
     let answer = m.answer;
     match answer {
-        Reading::Refused(q) => print_refusal(q),
+        Reading::Refused(q) => print_refusal(rt, q),
         Reading::Is(w) => {
-            print_frame(h, slots, scalars, list, directory, cells, w, 0);
-            print_frame(h, slots, scalars, list, directory, cells, w, 1);
-            print_frame(h, slots, scalars, list, directory, cells, w, 2);
+            print_frame(rt, *heap, slots, scalars, list, directory, cells, w, 0)?;
+            print_frame(rt, *heap, slots, scalars, list, directory, cells, w, 1)?;
+            print_frame(rt, *heap, slots, scalars, list, directory, cells, w, 2)
         }
     }
-    h
 }
 
 fn put(
-    heap: Heap,
+    rt: &impl Print,
+    heap: &mut Heap,
     slots: &mut [u64],
     scalars: &mut [u64],
     list: &[u64],
@@ -212,24 +212,24 @@ fn put(
     hash: u64,
     key: u64,
     value: u64,
-) -> Heap
-    requires { Good (lent heap slots scalars list directory cells) }
-    ensures { Good (after result slots scalars list directory cells) }
+) -> io::Result<()>
+    requires { Good (state heap.old slots.old scalars.old list.now directory.old cells.old) }
+    ensures { Good (state heap.new slots.new scalars.new list.now directory.new cells.new) }
 {
     let s = collections_maps::changes::put(
-        heap, slots, scalars, list, directory, cells, w, hash, key, value,
+        *heap, slots, scalars, list, directory, cells, w, hash, key, value,
     );
-    let h = s.heap;
+    *heap = s.heap;
     let done = s.done;
     match done {
-        Done::Accepted => {},
-        Done::Refused(q) => print_refusal(q),
+        Done::Accepted => Ok(()),
+        Done::Refused(q) => print_refusal(rt, q),
     }
-    h
 }
 
 // The cursor over a map, to the end and once more.
 fn steps(
+    rt: &impl Print,
     heap: Heap,
     slots: &[u64],
     scalars: &[u64],
@@ -237,8 +237,8 @@ fn steps(
     directory: &[u64],
     cells: &[u64],
     w: u64,
-)
-    requires { Good (lent heap slots scalars list directory cells) }
+) -> io::Result<()>
+    requires { Good (state heap slots.now scalars.now list.now directory.now cells.now) }
 {
     let mut c = Cursor {
         last: Last::Never,
@@ -250,26 +250,29 @@ fn steps(
         let m = next_from(heap, slots, scalars, list, directory, cells, w, c);
         let answer = m.answer;
         c = m.cursor;
-        print_answer(answer);
-        print_cursor(c);
+        print_answer(rt, answer)?;
+        print_cursor(rt, c)?;
         i += 1;
     }
+    Ok(())
 }
 
 // Three entries: keys 5, 3 and 9.
 fn filled(
-    heap: Heap,
+    rt: &impl Print,
+    heap: &mut Heap,
     slots: &mut [u64],
     scalars: &mut [u64],
     list: &[u64],
     directory: &mut [u64],
     cells: &mut [u64],
     w: u64,
-) -> Heap
-    requires { Good (lent heap slots scalars list directory cells) }
-    ensures { Good (after result slots scalars list directory cells) }
+) -> io::Result<()>
+    requires { Good (state heap.old slots.old scalars.old list.now directory.old cells.old) }
+    ensures { Good (state heap.new slots.new scalars.new list.now directory.new cells.new) }
 {
-    let a = put(
+    put(
+        rt,
         heap,
         slots,
         scalars,
@@ -280,9 +283,10 @@ fn filled(
         11,
         0xFFFE000000000005,
         1,
-    );
-    let b = put(
-        a,
+    )?;
+    put(
+        rt,
+        heap,
         slots,
         scalars,
         list,
@@ -292,9 +296,10 @@ fn filled(
         12,
         0xFFFE000000000003,
         2,
-    );
+    )?;
     put(
-        b,
+        rt,
+        heap,
         slots,
         scalars,
         list,
@@ -308,39 +313,42 @@ fn filled(
 }
 
 fn map(
+    rt: &impl Print,
     heap: Heap,
     slots: &mut [u64],
     scalars: &mut [u64],
     list: &[u64],
     directory: &mut [u64],
     cells: &mut [u64],
-)
-    requires { Good (lent heap slots scalars list directory cells) }
+) -> io::Result<()>
+    requires { Good (state heap slots.old scalars.old list.now directory.old cells.old) }
 {
     let m = collections_maps::changes::new_map(heap, slots, scalars, list, directory, cells, 0, 0);
-    let h = m.heap;
+    let mut h = m.heap;
     let answer = m.answer;
     match answer {
-        Reading::Refused(q) => print_refusal(q),
+        Reading::Refused(q) => print_refusal(rt, q),
         Reading::Is(w) => {
-            let a = filled(h, slots, scalars, list, directory, cells, w);
-            steps(a, slots, scalars, list, directory, cells, w);
+            filled(rt, &mut h, slots, scalars, list, directory, cells, w)?;
+            steps(rt, h, slots, scalars, list, directory, cells, w)
         }
     }
 }
 
 fn both(
+    rt: &impl Print,
     heap: Heap,
     slots: &mut [u64],
     scalars: &mut [u64],
     list: &[u64],
     directory: &mut [u64],
     cells: &mut [u64],
-)
-    requires { Good (lent heap slots scalars list directory cells) }
+) -> io::Result<()>
+    requires { Good (state heap slots.old scalars.old list.now directory.old cells.old) }
 {
-    let h = coroutine(heap, slots, scalars, list, directory, cells);
-    map(h, slots, scalars, list, directory, cells);
+    let mut h = heap;
+    coroutine(rt, &mut h, slots, scalars, list, directory, cells)?;
+    map(rt, h, slots, scalars, list, directory, cells)
 }
 
 // Document 01's weights for `callsheet`.
@@ -355,7 +363,7 @@ fn weights() -> Weights {
 }
 
 // A heap of four slots and 64 cells.
-fn main() {
+fn main(rt: HostRuntime) -> io::Result<()> {
     let mut slots = [0u64; 32];
     let mut scalars = [0u64; 32];
     let list = [0u64; 4];
@@ -379,8 +387,9 @@ fn main() {
         &directory,
         &cells,
     ) {
-        Opened::Refused(q) => print_refusal(q),
+        Opened::Refused(q) => print_refusal(&rt, q),
         Opened::Ready(h) => both(
+            &rt,
             h,
             &mut slots,
             &mut scalars,

@@ -12,13 +12,16 @@
 //   09 k         note                                      12 d a t nn the first a * nn words of d of the first a macros, each on a new
 //   13 l         search for the first entry later than l               map and followed by macro t; prints after every nn words
 // Anything else ends a macro, and the input.
+#![tactic(auto)]
+
 ghost use Rattle.std.specs.Prelude.{◌≡◌, ◌+◌, ◌*◌, ◌≤◌, ◌<◌, length};
 ghost use Rattle.map_store.specs.Map.{Good};
 
 use map_store::{Cursor, Found, Got, Last, MapStore, NextKey, Stored};
+use std::io;
 
 // A map, the cursor kept for it, and the digest so far.
-#[derive(Drop)]
+#[derive(Clone, Copy)]
 struct State {
     store: MapStore,
     digest: u64,
@@ -513,9 +516,8 @@ fn sequence(
     run(r, cells, input, from, from + 32)
 }
 
-fn print(digest: u64) {
-    io::print_hex(1, digest, 16);
-    io::write_all(1, b"\n");
+fn print(rt: &impl Print, digest: u64) -> io::Result<()> {
+    println!(rt; "{digest:016x}")
 }
 
 // The words x to end of d macros.
@@ -544,47 +546,56 @@ fn words(
 
 // The first a times n words of d macros out of the first a; a line after every n of them.
 fn all_words(
-    s: State,
+    rt: &impl Print,
+    s: &mut State,
     cells: &mut [u64],
     input: &[u8],
     d: usize,
     a: usize,
     t: usize,
     n: usize,
-) -> State
-    requires good { Good s.store cells.old }
+) -> io::Result<()>
+    requires good { Good s.old.store cells.old }
     requires base { (0 < a) × (a < 256) × (t < 256) × (n < 65536) }
-    ensures { Good result.store cells.new }
+    ensures { Good s.new.store cells.new }
 {
-    let mut r = s;
     let mut k = 0;
     let mut x = 0;
     while k < a {
-        r = words(r, cells, input, x, x + n, d, a, t);
-        print(r.digest);
+        *s = words(*s, cells, input, x, x + n, d, a, t);
+        print(rt, s.digest)?;
         x += n;
         k += 1;
     }
-    r
+    Ok(())
 }
 
 // A command of the input, or a line, or a list of sequences; nothing where it is none of these.
-fn turn(s: State, cells: &mut [u64], input: &[u8], i: usize, op: usize) -> State
-    requires good { Good s.store cells.old }
+fn turn(
+    rt: &impl Print,
+    s: &mut State,
+    cells: &mut [u64],
+    input: &[u8],
+    i: usize,
+    op: usize,
+) -> io::Result<()>
+    requires good { Good s.old.store cells.old }
     requires at { i < 900000 }
-    ensures { Good result.store cells.new }
+    ensures { Good s.new.store cells.new }
 {
     if op == 17 {
-        print(s.digest);
-        return with_digest(s, 0);
+        print(rt, s.digest)?;
+        *s = with_digest(*s, 0);
+        return Ok(());
     }
     if op == 18 {
         let a = byte(input, i + 2);
         if a == 0 {
-            return s;
+            return Ok(());
         }
         let n = small(input, i + 4) as usize;
         return all_words(
+            rt,
             s,
             cells,
             input,
@@ -594,7 +605,8 @@ fn turn(s: State, cells: &mut [u64], input: &[u8], i: usize, op: usize) -> State
             n,
         );
     }
-    command(s, cells, input, i, op)
+    *s = command(*s, cells, input, i, op);
+    Ok(())
 }
 
 fn turn_size(op: usize) -> usize
@@ -609,7 +621,7 @@ fn turn_size(op: usize) -> usize
     size(op)
 }
 
-fn replay(cells: &mut [u64], input: &[u8])
+fn replay(rt: &impl Print, cells: &mut [u64], input: &[u8]) -> io::Result<()>
     requires { (length cells.old ≤ 1048576) × (length input.now ≤ 131072) }
 {
     let mut s = fresh(0, false, cells);
@@ -618,16 +630,17 @@ fn replay(cells: &mut [u64], input: &[u8])
         let op = byte(input, i);
         let n = turn_size(op);
         if n == 0 {
-            return;
+            return Ok(());
         }
-        s = turn(s, cells, input, i, op);
+        turn(rt, &mut s, cells, input, i, op)?;
         i += n;
     }
+    Ok(())
 }
 
-fn main() {
+fn main(rt: HostRuntime) -> io::Result<()> {
     let mut input = [0u8; 131072];
     let mut cells = [0u64; 65536];
-    let n = io::read_full(0, &mut input);
-    replay(&mut cells, &input[..n]);
+    let n = streams::read_full(&mut rt.stdin(), &mut input)?;
+    replay(&rt, &mut cells, &input[..n])
 }

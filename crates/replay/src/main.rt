@@ -1,10 +1,13 @@
 // Reads a script from standard input, up to 1 MiB (what is longer is cut), and prints a line for
 // each command.
-ghost use Rattle.std.specs.Prelude.{◌≡◌, ◌≤◌, length};
+#![tactic(auto)]
+
+ghost use Rattle.std.specs.Prelude.{◌≡◌, ◌≤◌, IfOk, length};
 ghost use Rattle.script.specs.Turns.{SessionReady, lend};
 
-use libc::{STDIN_FILENO, STDOUT_FILENO};
 use script::{Session, Started};
+use std::io;
+use std::io::Read;
 
 // Zeros. The `ensures` gives only the length, which lending needs.
 fn script_buffer() -> [u8; 1048577]
@@ -20,6 +23,7 @@ fn line_buffer() -> [u8; 1114279]
 }
 
 fn play(
+    rt: &impl Print,
     first: Session,
     slots: &mut [u64],
     scalars: &mut [u64],
@@ -35,8 +39,8 @@ fn play(
     places: &mut [u64],
     out: &mut [u8],
     input: &[u8],
-)
-    requires { SessionReady input.now (lend slots scalars list directory cells marks order table roots words bytes places out) first }
+) -> io::Result<()>
+    requires { SessionReady input.now (lend slots.old scalars.old list.old directory.old cells.old marks.old order.old table.old roots.old words.old bytes.old places.old out.old) first }
 {
     let mut p = first;
     while p.at < input.len() {
@@ -45,11 +49,12 @@ fn play(
             places, out, input,
         );
         let end = p.end;
-        io::write_all(STDOUT_FILENO, &out[..end]);
+        rt.write_all(&out[..end])?;
     }
+    Ok(())
 }
 
-fn run(input: &[u8]) {
+fn run(rt: &impl Print, input: &[u8]) -> io::Result<()> {
     let mut slots = [0u64; 8192];
     let mut scalars = [0u64; 8192];
     let mut list = [0u64; 1024];
@@ -67,9 +72,10 @@ fn run(input: &[u8]) {
         &slots, &scalars, &list, &directory, &cells, &mut marks, &mut order, &mut table, &roots,
         &words, &bytes, &places, &out, input,
     ) {
-        Started::Short => {},
-        Started::Refused => {},
+        Started::Short => Ok(()),
+        Started::Refused => Ok(()),
         Started::Ready(p) => play(
+            rt,
             p,
             &mut slots,
             &mut scalars,
@@ -90,16 +96,16 @@ fn run(input: &[u8]) {
 }
 
 // The layout 00 stands before the script.
-fn read_script(input: &mut [u8]) -> usize
+fn read_script<R: Read>(reader: &mut R, input: &mut [u8]) -> io::Result<usize>
     requires { 1 ≤ length input.old }
-    ensures { (1 ≤ result) × (result ≤ length input.new) }
+    ensures { IfOk result (λ n. (1 ≤ n) × (n ≤ length input.new)) }
 {
-    let n = io::read_full(STDIN_FILENO, &mut input[1..]);
-    n + 1
+    let n = streams::read_full(reader, &mut input[1..])?;
+    Ok(n + 1)
 }
 
-fn main() {
+fn main(rt: HostRuntime) -> io::Result<()> {
     let mut input = script_buffer();
-    let e = read_script(&mut input);
-    run(&input[..e]);
+    let e = read_script(&mut rt.stdin(), &mut input)?;
+    run(&rt, &input[..e])
 }

@@ -1,9 +1,11 @@
 // Runs a script of calls on words, and of openings of which only the sizes and the layout are
 // judged: one-byte commands with little-endian operands, one line printed for each.
+#![tactic(auto)]
+
 ghost use Rattle.std.specs.Prelude.{◌≡◌, ◌+◌, ◌-◌, ◌≤◌, ◌<◌, length, get_or};
 
 use layout::Checked;
-use libc::STDOUT_FILENO;
+use std::io;
 use words::{Inline, Raw};
 
 const OPEN: u64 = 0x00;
@@ -28,7 +30,7 @@ const OPENING: usize = 73;
 const HALF: u64 = 0x1_0000_0000;
 
 // A line's refusal and word, and what stands after them: a number, or 16 for nothing.
-#[derive(Drop)]
+#[derive(Clone, Copy)]
 struct Line {
     refusal: u64,
     word: u64,
@@ -255,56 +257,56 @@ fn spelled(value: u64) -> [u8; 16]
     text
 }
 
-fn print_line(command: u64, line: Line) {
+fn print_line(rt: &impl Print, command: u64, line: Line) -> io::Result<()> {
     let name = spelled(command);
-    io::write_all(STDOUT_FILENO, &name[14..]);
-    io::write_all(STDOUT_FILENO, b" ");
-    io::print_decimal(STDOUT_FILENO, line.refusal);
-    io::write_all(STDOUT_FILENO, b" ");
+    rt.write_all(&name[14..])?;
+    rt.write_all(b" ")?;
+    rt.print(line.refusal)?;
+    rt.write_all(b" ")?;
     let word = spelled(line.word);
-    io::write_all(STDOUT_FILENO, &word);
-    io::write_all(STDOUT_FILENO, b" 0");
+    rt.write_all(&word)?;
+    rt.write_all(b" 0")?;
     if line.extra < NOTHING {
-        io::write_all(STDOUT_FILENO, b" ");
-        io::print_decimal(STDOUT_FILENO, line.extra);
+        rt.write_all(b" ")?;
+        rt.print(line.extra)?;
     }
-    io::write_all(STDOUT_FILENO, b"\n");
+    rt.write_all(b"\n")
 }
 
-fn print_unknown() {
-    io::write_all(STDOUT_FILENO, b"?? 4 0000000000000000 0\n");
+fn print_unknown(rt: &impl Print) -> io::Result<()> {
+    rt.write_all(b"?? 4 0000000000000000 0\n")
 }
 
 // The command at a place, with its operands `size` bytes long.
-fn perform(script: &[u8], at: usize, size: usize)
+fn perform(rt: &impl Print, script: &[u8], at: usize, size: usize) -> io::Result<()>
     requires { (length script.now ≤ 65536) × (at + size ≤ length script.now) × (get_or script.now at 0 ≡ 0 → 73 ≤ size) }
 {
     let command = byte_at(script, at);
     if command == OPEN {
-        print_line(command, opening(script, at, size));
+        print_line(rt, command, opening(script, at, size))
     } else {
-        print_line(command, word_call(command, script, at + 1));
+        print_line(rt, command, word_call(command, script, at + 1))
     }
 }
 
-fn run(script: &[u8])
+fn run(rt: &impl Print, script: &[u8]) -> io::Result<()>
     requires { length script.now ≤ 65536 }
 {
     let mut at: usize = 0;
     while at < script.len() {
         let size = whole_size(script, at);
         if size == 0 {
-            print_unknown();
-            return;
+            return print_unknown(rt);
         }
-        perform(script, at, size);
+        perform(rt, script, at, size)?;
         at += size;
     }
+    Ok(())
 }
 
-fn main() {
+fn main(rt: HostRuntime) -> io::Result<()> {
     // 64 KiB: the vectors, layouts among them, fit.
-    let mut buffer = io::large_buffer();
-    let n = io::read_full(0, &mut buffer);
-    run(&buffer[..n]);
+    let mut buffer = [0u8; 65536];
+    let n = streams::read_full(&mut rt.stdin(), &mut buffer)?;
+    run(&rt, &buffer[..n])
 }

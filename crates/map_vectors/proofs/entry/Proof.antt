@@ -2,43 +2,43 @@ use borrow.Author.Rules.{rules}
 use Rattle.map_vectors.proofs.entry.Statement.{statement}
 use Rattle.map_vectors.proofs.entry.Tie as tie
 
-entry-requires : tie.Need-entry-requires
-entry-requires c κs = search rules
+entry-got-requires : tie.Need-entry-got-requires
+entry-got-requires c κs = search rules
 
-enum-known-got : tie.Need-enum-known-got
-enum-known-got c = search rules
+enum_known-got : tie.Need-enum_known-got
+enum_known-got c = search rules
 
-mixed-entry-requires : tie.Need-mixed-entry-requires
-mixed-entry-requires c κs = search rules
+mixed_entry-requires : tie.Need-mixed_entry-requires
+mixed_entry-requires c κs = search rules
 
-with-digest-requires : tie.Need-with-digest-requires
-with-digest-requires c κs = search rules
+with_digest-requires : tie.Need-with_digest-requires
+with_digest-requires c κs = search rules
 
-enum_told : tie.Need-enum-told
-enum_told c = search rules
+enum_told-1 : tie.Need-enum_told-1
+enum_told-1 c = search rules
 
 mix-requires : tie.Need-mix-requires
 mix-requires c κs = search rules
 
-with-digest-requires-2 : tie.Need-with-digest-requires-2
-with-digest-requires-2 c κs = search rules
+with_digest-requires-in-Outside : tie.Need-with_digest-requires-in-Outside
+with_digest-requires-in-Outside c κs = search rules
 
-returns : tie.Need-returns
-returns c = rw (c.with-digest.ensures) (c.before.before.before.before.before.before.before.before.requires)
+returns-in-Place : tie.Need-returns-in-Place
+returns-in-Place c = rw c.with_digest.ensures c.requires
 
-returns-2 : tie.Need-returns-2
-returns-2 c = rw (c.with-digest2.ensures) (c.before.before.before.before.before.before.before.requires)
+returns-in-Outside : tie.Need-returns-in-Outside
+returns-in-Outside c = rw c.with_digest-in-Outside.ensures c.requires
 
 pub entry_spec : {M : Type 1} → statement M
 entry_spec =
     tie.close
     (tie.spec
-    entry-requires
-    enum-known-got
-    mixed-entry-requires
-    with-digest-requires
-    enum_told
+    entry-got-requires
+    enum_known-got
+    mixed_entry-requires
+    with_digest-requires
+    enum_told-1
     mix-requires
-    with-digest-requires-2
-    returns
-    returns-2)
+    with_digest-requires-in-Outside
+    returns-in-Place
+    returns-in-Outside)

@@ -2,11 +2,15 @@ use borrow.Author.Rules.{rules}
 use Rattle.map_vectors.proofs.fresh.Statement.{statement}
 use Rattle.map_vectors.proofs.fresh.Tie as tie
 
-new-requires : tie.Need-new-requires
-new-requires c κs = search rules
+new-store-requires : tie.Need-new-store-requires
+new-store-requires c κs = search rules
 
 returns : tie.Need-returns
-returns c = c.new.ensures.2 _ (c.before.before.requires)
+returns c = c.new-store.ensures.2 _ c.requires
 
 pub fresh_spec : {M : Type 1} → statement M
-fresh_spec = tie.close (tie.spec new-requires returns)
+fresh_spec =
+    tie.close
+    (tie.spec
+    new-store-requires
+    returns)

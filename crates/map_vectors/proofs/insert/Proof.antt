@@ -2,39 +2,39 @@ use borrow.Author.Rules.{rules}
 use Rattle.map_vectors.proofs.insert.Statement.{statement}
 use Rattle.map_vectors.proofs.insert.Tie as tie
 
-cells-after-insert-requires : tie.Need-cells-after-insert-requires
-cells-after-insert-requires c κs = search rules
+cells_after_insert-wanted-requires : tie.Need-cells_after_insert-wanted-requires
+cells_after_insert-wanted-requires c κs = search rules
 
-insert-requires : tie.Need-insert-requires
-insert-requires c κs = search rules
+insert-r-requires : tie.Need-insert-r-requires
+insert-r-requires c κs = search rules
 
-with-store-requires : tie.Need-with-store-requires
-with-store-requires c κs = search rules
+with_store-requires : tie.Need-with_store-requires
+with_store-requires c κs = search rules
 
-same_length : tie.Need-same-length
-same_length c = search rules
+shape_of-cells-then-wanted-cells : tie.Need-shape_of-cells-then-wanted-cells
+shape_of-cells-then-wanted-cells c = search rules
 
-returns : tie.Need-returns
-returns c = rw (c.with-store.ensures) c.before.before.before.insert.ensures.good
+returns-then-wanted-cells : tie.Need-returns-then-wanted-cells
+returns-then-wanted-cells c = rw c.with_store.ensures c.insert-r.ensures.good
 
 mix-requires : tie.Need-mix-requires
 mix-requires c κs = search rules
 
-with-digest-requires : tie.Need-with-digest-requires
-with-digest-requires c κs = search rules
+with_digest-requires : tie.Need-with_digest-requires
+with_digest-requires c κs = search rules
 
-returns-2 : tie.Need-returns-2
-returns-2 c = rw (c.with-digest.ensures) (c.before.before.before.before.before.before.requires)
+returns : tie.Need-returns
+returns c = rw c.with_digest.ensures c.requires
 
 pub insert_spec : {M : Type 1} → statement M
 insert_spec =
     tie.close
     (tie.spec
-    cells-after-insert-requires
-    insert-requires
-    with-store-requires
-    same_length
-    returns
+    cells_after_insert-wanted-requires
+    insert-r-requires
+    with_store-requires
+    shape_of-cells-then-wanted-cells
+    returns-then-wanted-cells
     mix-requires
-    with-digest-requires
-    returns-2)
+    with_digest-requires
+    returns)

@@ -2,43 +2,43 @@ use borrow.Author.Rules.{rules}
 use Rattle.map_vectors.proofs.remove_at.Statement.{statement}
 use Rattle.map_vectors.proofs.remove_at.Tie as tie
 
-cells-after-remove-requires : tie.Need-cells-after-remove-requires
-cells-after-remove-requires c κs = search rules
+cells_after_remove-wanted-requires : tie.Need-cells_after_remove-wanted-requires
+cells_after_remove-wanted-requires c κs = search rules
 
-remove-requires : tie.Need-remove-requires
-remove-requires c κs = search rules
+remove-r-requires : tie.Need-remove-r-requires
+remove-r-requires c κs = search rules
 
-with-store-requires : tie.Need-with-store-requires
-with-store-requires c κs = search rules
+with_store-requires : tie.Need-with_store-requires
+with_store-requires c κs = search rules
 
-same_length : tie.Need-same-length
-same_length c = search rules
+shape_of-cells-then-wanted-cells : tie.Need-shape_of-cells-then-wanted-cells
+shape_of-cells-then-wanted-cells c = search rules
 
-returns : tie.Need-returns
-returns c = rw (c.with-store.ensures) c.before.before.before.remove.ensures.good
+returns-then-wanted-cells : tie.Need-returns-then-wanted-cells
+returns-then-wanted-cells c = rw c.with_store.ensures c.remove-r.ensures.good
 
 mix-requires : tie.Need-mix-requires
 mix-requires c κs = search rules
 
-with-digest-requires : tie.Need-with-digest-requires
-with-digest-requires c κs = search rules
+with_digest-requires : tie.Need-with_digest-requires
+with_digest-requires c κs = search rules
 
-same-length-2 : tie.Need-same-length-2
-same-length-2 c = search rules
+shape_of-cells : tie.Need-shape_of-cells
+shape_of-cells c = search rules
 
-returns-2 : tie.Need-returns-2
-returns-2 c = rw (c.with-digest.ensures) (c.before.before.before.before.before.before.before.requires)
+returns : tie.Need-returns
+returns c = rw c.with_digest.ensures c.requires
 
 pub remove_at_spec : {M : Type 1} → statement M
 remove_at_spec =
     tie.close
     (tie.spec
-    cells-after-remove-requires
-    remove-requires
-    with-store-requires
-    same_length
-    returns
+    cells_after_remove-wanted-requires
+    remove-r-requires
+    with_store-requires
+    shape_of-cells-then-wanted-cells
+    returns-then-wanted-cells
     mix-requires
-    with-digest-requires
-    same-length-2
-    returns-2)
+    with_digest-requires
+    shape_of-cells
+    returns)

@@ -7,44 +7,44 @@ use Rattle.map_store.specs.Map.{Good}
 use Rattle.map_vectors.proofs.run.Statement.{statement}
 use Rattle.map_vectors.proofs.run.Tie as tie
 
-abbrev invariant_loop : tie.invariant_loop
+abbrev invariant_loop : tie.invariant-loop-i
 invariant_loop cells₀ input at end r₀ i₀ cells r i = Good r.store cells × (length cells ≡ length cells₀)
 
-abbrev decreases_loop : tie.decreases_loop
+abbrev decreases_loop : tie.decreases-loop-i
 decreases_loop cells₀ input at end r₀ i₀ cells r i = end - i
 
-loop-holds : tie.Need-loop-init invariant_loop decreases_loop
-loop-holds c = (c.before.before.requires.0, refl)
+loop-i-init : tie.Need-loop-i-init invariant_loop decreases_loop
+loop-i-init c = (c.requires.0, refl)
 
-byte-requires : tie.Need-byte-requires invariant_loop decreases_loop
-byte-requires c κs = search rules
+byte-op-requires : tie.Need-byte-op-requires invariant_loop decreases_loop
+byte-op-requires c κs = search rules
 
-size-requires : tie.Need-size-requires invariant_loop decreases_loop
-size-requires c κs = search rules
+size-n-requires : tie.Need-size-n-requires invariant_loop decreases_loop
+size-n-requires c κs = search rules
 
-same_length : tie.Need-same-length invariant_loop decreases_loop
-same_length c = c.before.before.before.before.loop.invariant.1
+shape_of-cells-then-n-eq0 : tie.Need-shape_of-cells-then-n-eq0 invariant_loop decreases_loop
+shape_of-cells-then-n-eq0 c = c.loop-i.invariant.1
+
+returns-then-n-eq0 : tie.Need-returns-then-n-eq0 invariant_loop decreases_loop
+returns-then-n-eq0 c = c.loop-i.invariant.0
+
+command-r-requires : tie.Need-command-r-requires invariant_loop decreases_loop
+command-r-requires c κs = (c.loop-i.invariant.0, omega (arith, c.loop-i-test.true, c.requires.1))
+
+overflow_add-i : tie.Need-overflow_add-i invariant_loop decreases_loop
+overflow_add-i c = omega (arith, c.loop-i-test.true, c.requires.1, c.size-n.ensures)
+
+loop-i-smaller : tie.Need-loop-i-smaller invariant_loop decreases_loop
+loop-i-smaller c = omega (arith, c.loop-i-test.true, c.if-n-eq0.false)
+
+loop-i-preserved : tie.Need-loop-i-preserved invariant_loop decreases_loop
+loop-i-preserved c = (c.command-r.ensures, c.command-r.auto.cells ∙ c.loop-i.invariant.1)
+
+shape_of-cells : tie.Need-shape_of-cells invariant_loop decreases_loop
+shape_of-cells c = c.loop-i.invariant.1
 
 returns : tie.Need-returns invariant_loop decreases_loop
-returns c = c.before.before.before.before.loop.invariant.0
-
-command-requires : tie.Need-command-requires invariant_loop decreases_loop
-command-requires c κs = (c.before.before.before.before.before.loop.invariant.0, omega (arith, c.before.before.before.before.loop-test.true, c.before.before.before.before.before.before.before.before.requires.1))
-
-add-i : tie.Need-overflow-add-i invariant_loop decreases_loop
-add-i c = omega (arith, c.before.before.before.before.before.before.before.loop-test.true, c.before.before.before.before.before.before.before.before.before.before.before.requires.1, c.before.before.before.before.before.size.ensures)
-
-loop-less : tie.Need-loop-smaller invariant_loop decreases_loop
-loop-less c = omega (arith, c.before.before.before.before.before.before.before.loop-test.true, c.before.before.before.before.if1.false)
-
-loop-again : tie.Need-loop-preserved invariant_loop decreases_loop
-loop-again c = (c.before.before.command.ensures, c.before.before.command.auto.1.0 ∙ c.before.before.before.before.before.before.before.before.loop.invariant.1)
-
-same-length-2 : tie.Need-same-length-2 invariant_loop decreases_loop
-same-length-2 c = c.before.loop.invariant.1
-
-returns-2 : tie.Need-returns-2 invariant_loop decreases_loop
-returns-2 c = c.before.loop.invariant.0
+returns c = c.loop-i.invariant.0
 
 pub run_spec : {M : Type 1} → statement M
 run_spec =
@@ -52,14 +52,14 @@ run_spec =
     (tie.spec
     invariant_loop
     decreases_loop
-    loop-holds
-    byte-requires
-    size-requires
-    same_length
-    returns
-    command-requires
-    add-i
-    loop-less
-    loop-again
-    same-length-2
-    returns-2)
+    loop-i-init
+    byte-op-requires
+    size-n-requires
+    shape_of-cells-then-n-eq0
+    returns-then-n-eq0
+    command-r-requires
+    overflow_add-i
+    loop-i-smaller
+    loop-i-preserved
+    shape_of-cells
+    returns)

@@ -7,56 +7,56 @@ use Rattle.map_store.specs.Map.{Good}
 use Rattle.map_vectors.proofs.sequence.Statement.{statement}
 use Rattle.map_vectors.proofs.sequence.Tie as tie
 
-abbrev invariant_loop : tie.invariant_loop
+abbrev invariant_loop : tie.invariant-loop-i
 invariant_loop cells₀ input x d a t r₀ rest₀ i₀ cells r rest i = Good r.store cells × (length cells ≡ length cells₀)
 
-abbrev decreases_loop : tie.decreases_loop
+abbrev decreases_loop : tie.decreases-loop-i
 decreases_loop cells₀ input x d a t r₀ rest₀ i₀ cells r rest i = d - i
 
-fresh-requires : tie.Need-fresh-requires invariant_loop decreases_loop
-fresh-requires c κs = omega (arith, c.before.before.before.requires.0.small)
+fresh-r-requires : tie.Need-fresh-r-requires invariant_loop decreases_loop
+fresh-r-requires c κs = omega (arith, c.requires.0.small)
 
-loop-holds : tie.Need-loop-init invariant_loop decreases_loop
-loop-holds c = (c.fresh.ensures, refl)
+loop-i-init : tie.Need-loop-i-init invariant_loop decreases_loop
+loop-i-init c = (c.fresh-r.ensures, refl)
 
-rem-macro-at : tie.Need-nonzero-rem-macro-at invariant_loop decreases_loop
-rem-macro-at c = c.before.before.before.before.before.before.requires.1.0
+nonzero_rem-rest : tie.Need-nonzero_rem-rest invariant_loop decreases_loop
+nonzero_rem-rest c = c.requires.1.0
 
-macro-at-requires : tie.Need-macro-at-requires invariant_loop decreases_loop
-macro-at-requires c κs = omega (arith, mod-lt (c.before.loop.rest) c.before.before.before.before.before.before.requires.1.0, c.before.before.before.before.before.before.requires.1)
+macro_at-from-requires : tie.Need-macro_at-from-requires invariant_loop decreases_loop
+macro_at-from-requires c κs = omega (arith, mod-lt c.loop-i.rest c.requires.1.0, c.requires.1)
 
-add-run : tie.Need-overflow-add-run invariant_loop decreases_loop
-add-run c = omega (arith, c.before.macro-at.ensures)
+overflow_add-from : tie.Need-overflow_add-from invariant_loop decreases_loop
+overflow_add-from c = omega (arith, c.macro_at-from.ensures)
+
+run-r-requires : tie.Need-run-r-requires invariant_loop decreases_loop
+run-r-requires c κs = (c.loop-i.invariant.0, omega (arith, c.macro_at-from.ensures))
+
+nonzero_div-rest : tie.Need-nonzero_div-rest invariant_loop decreases_loop
+nonzero_div-rest c = c.requires.1.0
+
+overflow_add-i : tie.Need-overflow_add-i invariant_loop decreases_loop
+overflow_add-i c = omega (arith, c.loop-i-test.true, c.ranges)
+
+loop-i-smaller : tie.Need-loop-i-smaller invariant_loop decreases_loop
+loop-i-smaller c = omega (arith, c.loop-i-test.true)
+
+loop-i-preserved : tie.Need-loop-i-preserved invariant_loop decreases_loop
+loop-i-preserved c = (c.run-r.ensures, c.run-r.auto.cells ∙ c.loop-i.invariant.1)
+
+macro_at-from-requires-2 : tie.Need-macro_at-from-requires-2 invariant_loop decreases_loop
+macro_at-from-requires-2 c κs = c.requires.1.2
+
+overflow_add-from-2 : tie.Need-overflow_add-from-2 invariant_loop decreases_loop
+overflow_add-from-2 c = omega (arith, c.macro_at-from-2.ensures)
 
 run-requires : tie.Need-run-requires invariant_loop decreases_loop
-run-requires c κs = (c.before.before.before.loop.invariant.0, omega (arith, c.before.macro-at.ensures))
+run-requires c κs = (c.loop-i.invariant.0, omega (arith, c.macro_at-from-2.ensures))
 
-div-rest : tie.Need-nonzero-div-rest invariant_loop decreases_loop
-div-rest c = c.before.before.before.before.before.before.before.before.before.before.before.requires.1.0
-
-add-i : tie.Need-overflow-add-i invariant_loop decreases_loop
-add-i c = omega (arith, c.before.before.before.before.before.loop-test.true, c.before.before.before.before.before.before.before.before.before.before.before.ranges)
-
-loop-less : tie.Need-loop-smaller invariant_loop decreases_loop
-loop-less c = omega (arith, c.before.before.before.before.before.loop-test.true)
-
-loop-again : tie.Need-loop-preserved invariant_loop decreases_loop
-loop-again c = (c.before.before.run.ensures, c.before.before.run.auto.1.0 ∙ c.before.before.before.before.before.before.loop.invariant.1)
-
-macro-at-requires-2 : tie.Need-macro-at-requires-2 invariant_loop decreases_loop
-macro-at-requires-2 c κs = c.before.before.before.before.before.before.requires.1.2
-
-add-run-2 : tie.Need-overflow-add-run-2 invariant_loop decreases_loop
-add-run-2 c = omega (arith, c.before.macro-at2.ensures)
-
-run-requires-2 : tie.Need-run-requires-2 invariant_loop decreases_loop
-run-requires-2 c κs = (c.before.before.before.loop.invariant.0, omega (arith, c.before.macro-at2.ensures))
-
-same_length : tie.Need-same-length invariant_loop decreases_loop
-same_length c = c.before.before.run2.auto.1.0 ∙ c.before.before.before.before.before.before.loop.invariant.1
+shape_of-cells : tie.Need-shape_of-cells invariant_loop decreases_loop
+shape_of-cells c = c.run.auto.cells ∙ c.loop-i.invariant.1
 
 returns : tie.Need-returns invariant_loop decreases_loop
-returns c = c.before.before.run2.ensures
+returns c = c.run.ensures
 
 pub sequence_spec : {M : Type 1} → statement M
 sequence_spec =
@@ -64,18 +64,18 @@ sequence_spec =
     (tie.spec
     invariant_loop
     decreases_loop
-    fresh-requires
-    loop-holds
-    rem-macro-at
-    macro-at-requires
-    add-run
+    fresh-r-requires
+    loop-i-init
+    nonzero_rem-rest
+    macro_at-from-requires
+    overflow_add-from
+    run-r-requires
+    nonzero_div-rest
+    overflow_add-i
+    loop-i-smaller
+    loop-i-preserved
+    macro_at-from-requires-2
+    overflow_add-from-2
     run-requires
-    div-rest
-    add-i
-    loop-less
-    loop-again
-    macro-at-requires-2
-    add-run-2
-    run-requires-2
-    same_length
+    shape_of-cells
     returns)

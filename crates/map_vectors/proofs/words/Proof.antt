@@ -6,32 +6,32 @@ use Rattle.map_store.specs.Map.{Good}
 use Rattle.map_vectors.proofs.words.Statement.{statement}
 use Rattle.map_vectors.proofs.words.Tie as tie
 
-abbrev invariant_loop : tie.invariant_loop
+abbrev invariant_loop : tie.invariant-loop-i
 invariant_loop cells₀ input x end d a t r₀ i₀ cells r i = Good r.store cells × (length cells ≡ length cells₀)
 
-abbrev decreases_loop : tie.decreases_loop
+abbrev decreases_loop : tie.decreases-loop-i
 decreases_loop cells₀ input x end d a t r₀ i₀ cells r i = end - i
 
-loop-holds : tie.Need-loop-init invariant_loop decreases_loop
-loop-holds c = (c.before.before.requires.0, refl)
+loop-i-init : tie.Need-loop-i-init invariant_loop decreases_loop
+loop-i-init c = (c.requires.0, refl)
 
-sequence-requires : tie.Need-sequence-requires invariant_loop decreases_loop
-sequence-requires c κs = (c.before.before.loop.invariant.0, c.before.before.before.before.before.requires.1)
+sequence-r-requires : tie.Need-sequence-r-requires invariant_loop decreases_loop
+sequence-r-requires c κs = (c.loop-i.invariant.0, c.requires.1)
 
-add-i : tie.Need-overflow-add-i invariant_loop decreases_loop
-add-i c = omega (arith, c.before.before.before.before.loop-test.true, c.before.before.before.before.before.before.before.before.ranges)
+overflow_add-i : tie.Need-overflow_add-i invariant_loop decreases_loop
+overflow_add-i c = omega (arith, c.loop-i-test.true, c.ranges)
 
-loop-less : tie.Need-loop-smaller invariant_loop decreases_loop
-loop-less c = omega (arith, c.before.before.before.before.loop-test.true)
+loop-i-smaller : tie.Need-loop-i-smaller invariant_loop decreases_loop
+loop-i-smaller c = omega (arith, c.loop-i-test.true)
 
-loop-again : tie.Need-loop-preserved invariant_loop decreases_loop
-loop-again c = (c.before.before.sequence.ensures, c.before.before.sequence.auto.1.0 ∙ c.before.before.before.before.before.loop.invariant.1)
+loop-i-preserved : tie.Need-loop-i-preserved invariant_loop decreases_loop
+loop-i-preserved c = (c.sequence-r.ensures, c.sequence-r.auto.cells ∙ c.loop-i.invariant.1)
 
-same_length : tie.Need-same-length invariant_loop decreases_loop
-same_length c = c.before.loop.invariant.1
+shape_of-cells : tie.Need-shape_of-cells invariant_loop decreases_loop
+shape_of-cells c = c.loop-i.invariant.1
 
 returns : tie.Need-returns invariant_loop decreases_loop
-returns c = c.before.loop.invariant.0
+returns c = c.loop-i.invariant.0
 
 pub words_spec : {M : Type 1} → statement M
 words_spec =
@@ -39,10 +39,10 @@ words_spec =
     (tie.spec
     invariant_loop
     decreases_loop
-    loop-holds
-    sequence-requires
-    add-i
-    loop-less
-    loop-again
-    same_length
+    loop-i-init
+    sequence-r-requires
+    overflow_add-i
+    loop-i-smaller
+    loop-i-preserved
+    shape_of-cells
     returns)

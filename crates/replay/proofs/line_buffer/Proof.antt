@@ -8,4 +8,7 @@ returns : tie.Need-returns
 returns c = sym (length-replicate {A = ℕ} 1114279 0)
 
 pub line_buffer_spec : {M : Type 1} → statement M
-line_buffer_spec = tie.close (tie.spec returns)
+line_buffer_spec =
+    tie.close
+    (tie.spec
+    returns)

@@ -8,4 +8,7 @@ returns : tie.Need-returns
 returns c = sym (length-replicate {A = ℕ} 1048577 0)
 
 pub script_buffer_spec : {M : Type 1} → statement M
-script_buffer_spec = tie.close (tie.spec returns)
+script_buffer_spec =
+    tie.close
+    (tie.spec
+    returns)

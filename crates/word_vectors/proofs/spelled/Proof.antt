@@ -5,29 +5,29 @@ use mathlib.Core.Path.{◌≡◌}
 use Rattle.word_vectors.proofs.spelled.Statement.{statement}
 use Rattle.word_vectors.proofs.spelled.Tie as tie
 
-abbrev invariant_loop : tie.invariant_loop
+abbrev invariant_loop : tie.invariant-loop-i
 invariant_loop value text₀ rest₀ i₀ text rest i = (i ≤ 16) × (16 ≡ length text)
 
-abbrev decreases_loop : tie.decreases_loop
+abbrev decreases_loop : tie.decreases-loop-i
 decreases_loop value text₀ rest₀ i₀ text rest i = i
 
-loop-holds : tie.Need-loop-init invariant_loop decreases_loop
-loop-holds c = search rules
+loop-i-init : tie.Need-loop-i-init invariant_loop decreases_loop
+loop-i-init c = search rules
 
-sub-i : tie.Need-overflow-sub-i invariant_loop decreases_loop
-sub-i c = search rules
+overflow_sub-i : tie.Need-overflow_sub-i invariant_loop decreases_loop
+overflow_sub-i c = search rules
 
 digit-requires : tie.Need-digit-requires invariant_loop decreases_loop
 digit-requires c κs = search rules
 
-array-write-text : tie.Need-array-write-text invariant_loop decreases_loop
-array-write-text c = search rules
+bounds-text-i : tie.Need-bounds-text-i invariant_loop decreases_loop
+bounds-text-i c = search rules
 
-loop-less : tie.Need-loop-smaller invariant_loop decreases_loop
-loop-less c = search rules
+loop-i-smaller : tie.Need-loop-i-smaller invariant_loop decreases_loop
+loop-i-smaller c = search rules
 
-loop-again : tie.Need-loop-preserved invariant_loop decreases_loop
-loop-again c = search rules
+loop-i-preserved : tie.Need-loop-i-preserved invariant_loop decreases_loop
+loop-i-preserved c = search rules
 
 returns : tie.Need-returns invariant_loop decreases_loop
 returns c = search rules
@@ -38,10 +38,10 @@ spelled_spec =
     (tie.spec
     invariant_loop
     decreases_loop
-    loop-holds
-    sub-i
+    loop-i-init
+    overflow_sub-i
     digit-requires
-    array-write-text
-    loop-less
-    loop-again
+    bounds-text-i
+    loop-i-smaller
+    loop-i-preserved
     returns)

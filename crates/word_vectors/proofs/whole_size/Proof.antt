@@ -4,52 +4,52 @@ use borrow.Author.Rules.{rules}
 use Rattle.word_vectors.proofs.whole_size.Statement.{statement}
 use Rattle.word_vectors.proofs.whole_size.Tie as tie
 
-byte-at-requires : tie.Need-byte-at-requires
-byte-at-requires c κs = search rules
+byte_at-command-requires : tie.Need-byte_at-command-requires
+byte_at-command-requires c κs = search rules
 
-fixed-size-requires : tie.Need-fixed-size-requires
-fixed-size-requires c κs = search rules
+fixed_size-size-requires : tie.Need-fixed_size-size-requires
+fixed_size-size-requires c κs = search rules
 
-sub-left : tie.Need-overflow-sub-left
-sub-left c = search rules
+overflow_sub-left : tie.Need-overflow_sub-left
+overflow_sub-left c = search rules
+
+returns-then-left-size : tie.Need-returns-then-left-size
+returns-then-left-size c = search rules
+
+returns-then-command-ne-OPEN : tie.Need-returns-then-command-ne-OPEN
+returns-then-command-ne-OPEN c = search rules
+
+overflow_add-at : tie.Need-overflow_add-at
+overflow_add-at c = search rules
+
+word_at-count-requires : tie.Need-word_at-count-requires
+word_at-count-requires c κs = search rules
+
+overflow_sub-room : tie.Need-overflow_sub-room
+overflow_sub-room c = let z : c.fixed_size-size.result ≡ 73 = c.fixed_size-size.ensures.1 c.if-command-ne-OPEN.false in omega arith
+
+returns-then-count-room : tie.Need-returns-then-count-room
+returns-then-count-room c = search rules
+
+overflow_add-result : tie.Need-overflow_add-result
+overflow_add-result c = search rules
 
 returns : tie.Need-returns
-returns c = search rules
-
-returns-2 : tie.Need-returns-2
-returns-2 c = search rules
-
-add-word-at : tie.Need-overflow-add-word-at
-add-word-at c = search rules
-
-word-at-requires : tie.Need-word-at-requires
-word-at-requires c κs = search rules
-
-sub-room : tie.Need-overflow-sub-room
-sub-room c = let z : c.before.before.before.fixed-size.result ≡ 73 = c.before.before.before.fixed-size.ensures.1 c.before.if2.false in omega arith
-
-returns-3 : tie.Need-returns-3
-returns-3 c = search rules
-
-add-result : tie.Need-overflow-add-result
-add-result c = search rules
-
-returns-4 : tie.Need-returns-4
-returns-4 c = let z : c.before.before.before.before.fixed-size.result ≡ 73 = c.before.before.before.before.fixed-size.ensures.1 c.before.before.if2.false in
+returns c = let z : c.fixed_size-size.result ≡ 73 = c.fixed_size-size.ensures.1 c.if-command-ne-OPEN.false in
     (omega arith, λ e h. omega arith)
 
 pub whole_size_spec : {M : Type 1} → statement M
 whole_size_spec =
     tie.close
     (tie.spec
-    byte-at-requires
-    fixed-size-requires
-    sub-left
-    returns
-    returns-2
-    add-word-at
-    word-at-requires
-    sub-room
-    returns-3
-    add-result
-    returns-4)
+    byte_at-command-requires
+    fixed_size-size-requires
+    overflow_sub-left
+    returns-then-left-size
+    returns-then-command-ne-OPEN
+    overflow_add-at
+    word_at-count-requires
+    overflow_sub-room
+    returns-then-count-room
+    overflow_add-result
+    returns)
