@@ -1,5 +1,5 @@
 /*
- * mirchollan.h: the heap for C. Link target/staticlib/libcapi.a, which `rt staticlib capi` proves and writes.
+ * mirchollan.h: the heap for C. Link target/staticlib/libcapi.a, which `tools/staticlib capi` proves and writes.
  *
  * A heap is a record of nineteen words and buffers that the caller lends; the library allocates nothing. For n slots
  * (1 to 65,536) and c cells (0 to 1,048,576) the buffers are

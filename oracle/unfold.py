@@ -17,11 +17,11 @@ def unfoldable(path):
 
 
 def everything():
-    modules = [('crates/words/specs/Word.antt', 'Rattle·words.specs.Word', 'Words'),
-               ('crates/map_store/specs/Store.antt', 'Rattle·map_store.specs.Store', 'Maps'),
-               ('crates/account/specs/Account.antt', 'Rattle·account.specs.Account', 'Account-'),
-               ('crates/layout/specs/Layout.antt', 'Rattle·layout.specs.Layout', 'Layout-')]
-    modules += [('crates/model/specs/%s.antt' % m, 'Rattle·model·specs.specs.%s' % m, m + '-') for m in MODEL]
+    modules = [('crates/words/specs/Word.antt', 'Rattle.words.specs.Word', 'Words'),
+               ('crates/map_store/specs/Store.antt', 'Rattle.map_store.specs.Store', 'Maps'),
+               ('crates/account/specs/Account.antt', 'Rattle.account.specs.Account', 'Account-'),
+               ('crates/layout/specs/Layout.antt', 'Rattle.layout.specs.Layout', 'Layout-')]
+    modules += [('crates/model/specs/%s.antt' % m, 'Rattle.model.specs.%s' % m, m + '-') for m in MODEL]
     uses = ['use %s as %s' % (module, name) for _, module, name in modules]
     names = ['%s.%s' % (name, n) for path, _, name in modules for n in unfoldable(path)]
     return uses, names

@@ -1,4 +1,4 @@
-//! Where the static library is: MIRCHOLLAN_LIB, or where `rt staticlib capi` writes it.
+//! Where the static library is: MIRCHOLLAN_LIB, or where `tools/staticlib capi` writes it.
 fn main() {
     let here = std::env::var("CARGO_MANIFEST_DIR").unwrap();
     let folder = std::env::var("MIRCHOLLAN_LIB").unwrap_or(format!("{here}/../../target/staticlib"));

@@ -1,7 +1,7 @@
 //! The heap for Rust: a [`Heap`] owns its buffers, and every call is a method. Each rests on the function of the same
 //! name in crates/capi, which is proved; this wrapper is not, it only hands over what the functions are to be lent.
 //!
-//! Build the library first: `rt staticlib capi`.
+//! Build the library first: `tools/staticlib capi`.
 
 mod sys;
 
