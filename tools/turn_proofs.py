@@ -323,7 +323,11 @@ def main():
     crates = sorted({a.split("/")[0] for a in ONLY}) or sys.argv[2:] or sorted(os.listdir(os.path.join(ROOT, "crates")))
     said = []
     for c in crates:
-        d = json.load(open(os.path.join(names, "crates", c, "names.json"), encoding="utf-8"))
+        listed = os.path.join(names, "crates", c, "names.json")
+        if not os.path.exists(listed):
+            said.append(f"{c}: no names")
+            continue
+        d = json.load(open(listed, encoding="utf-8"))
         for folder, _, files in os.walk(os.path.join(ROOT, "crates", c, "proofs")):
             if "Proof.antt" not in files:
                 continue
