@@ -1,10 +1,10 @@
 // The account (document 01, "Account"): a small record handed in and handed back.
 #![tactic(auto)]
 
-ghost use Rattle.std.specs.Prelude.{◌≡◌, ◌+◌, ◌*◌};
-ghost use Rattle.account.specs.Account.{saturated, new_account, fits, fits_of, charge_is, charge_of, wants_collection, after_sweep};
+ghost use Rattle.std.specs.Prelude.{◌≡◌};
+ghost use Rattle.account.specs.Account.{new_account, fits, charge_is, charge_of, wants_collection, after_sweep};
 
-#[derive(Clone, Copy)]
+#[derive(Clone, Copy, Debug, PartialEq, Eq)]
 pub struct Account {
     pub used: u64,
     pub since: u64,
@@ -12,38 +12,11 @@ pub struct Account {
     pub limit: u64,
 }
 
-// What becomes of a charge.
-#[derive(Clone, Copy)]
-pub enum Charged {
-    Next(Account),
-    Refused,
-}
-
-// Whether a charge would be accepted, with the account afterwards: asking changes nothing.
-#[derive(Clone, Copy)]
-pub struct Answered {
-    pub next: Account,
-    pub fits: bool,
-}
-
-const MOST: u64 = 0xFFFF_FFFF_FFFF_FFFF;
+// A charge that would exceed the limit.
+#[derive(Clone, Copy, Debug, PartialEq, Eq)]
+pub struct OverBudget;
 
 const LEAST_THRESHOLD: u64 = 262144;
-
-pub fn saturating_add(a: u64, b: u64) -> u64
-    ensures { result ≡ saturated (a + b) }
-{
-    if a <= MOST - b { a + b } else { MOST }
-}
-
-pub fn saturating_mul(a: u64, b: u64) -> u64
-    ensures { result ≡ saturated (a * b) }
-{
-    if b == 0 {
-        return 0;
-    }
-    if a <= MOST / b { a * b } else { MOST }
-}
 
 impl Account {
     pub fn new(limit: u64) -> Account
@@ -57,61 +30,45 @@ impl Account {
         }
     }
 
-    pub fn allows(self, bytes: u64) -> bool
-        ensures { result ≡ fits self bytes }
+    #[tactic(auto, unfolding(crate::specs::Account::saturated, crate::specs::Account::fits))]
+    pub fn fits(&self, bytes: u64) -> bool
+        ensures { result ≡ fits self.now bytes }
     {
-        saturating_add(self.used, bytes) <= self.limit
+        self.used.saturating_add(bytes) <= self.limit
     }
 
-    pub fn fits(self, bytes: u64) -> Answered
-        ensures { result ≡ fits_of self bytes }
-    {
-        Answered {
-            next: self,
-            fits: self.allows(bytes),
-        }
-    }
-
-    pub fn charge(self, bytes: u64) -> Charged
+    #[tactic(auto, unfolding(crate::specs::Account::saturated, crate::specs::Account::fits, crate::specs::Account::charged, crate::specs::Account::charge_of))]
+    pub fn charge(self, bytes: u64) -> Result<Account, OverBudget>
         ensures { charge_is self result ≡ charge_of self bytes }
     {
-        let used = saturating_add(self.used, bytes);
+        let used = self.used.saturating_add(bytes);
         if used <= self.limit {
-            Charged::Next(Account {
+            Ok(Account {
                 used,
-                since: saturating_add(self.since, bytes),
-                threshold: self.threshold,
-                limit: self.limit,
+                since: self.since.saturating_add(bytes),
+                ..self
             })
         } else {
-            Charged::Refused
+            Err(OverBudget)
         }
     }
 
+    #[tactic(auto, unfolding(crate::specs::Account::saturated, crate::specs::Account::wants_collection))]
     pub fn wants_gc(self, extra: u64) -> bool
         ensures { result ≡ wants_collection self extra }
     {
-        if self.threshold <= self.since {
-            return true;
-        }
-        let sum = saturating_add(self.used, extra);
-        if sum <= self.limit {
-            return false;
-        }
-        self.limit / 8 <= self.since
+        self.threshold <= self.since
+            || (self.used.saturating_add(extra) > self.limit && self.limit / 8 <= self.since)
     }
 
+    #[tactic(auto, unfolding(crate::specs::Account::after_sweep))]
     pub fn after_sweep(self, kept: u64) -> Account
         ensures { result ≡ after_sweep self kept }
     {
         Account {
             used: kept,
             since: 0,
-            threshold: if kept < LEAST_THRESHOLD {
-                LEAST_THRESHOLD
-            } else {
-                kept
-            },
+            threshold: kept.max(LEAST_THRESHOLD),
             limit: self.limit,
         }
     }

@@ -4,8 +4,7 @@ use mathlib.Core.Path.{◌≡◌, refl, ap, ◌∙◌}
 use Rattle.layout.specs.Layout.{Layout}
 use Rattle.words.specs.declared.Raw.{Raw}
 use Rattle.words.specs.declared.Raw.TheVariants as R
-use Rattle.words.specs.declared.Inline.{Inline}
-use Rattle.words.specs.declared.Inline.TheVariants as I
+use Rattle.std.specs.Prelude.{Option, Some, None}
 use Rattle.history.proofs.Lift.{Seen}
 use Rattle.model.specs.Calls.{Call}
 use Rattle.model.specs.Replies.{Reply, nothing, number, signed, truth, perhaps, next_integer, noted, entry_is, frame_is, map_cursor, array_cursor, inline, raw, collected, Answer, reference_made, reply, Lent, no_memory, list, cursor_at}
@@ -17,10 +16,10 @@ use Rattle.answers.specs.Promise.{ShowsCall}
 
 -- ---- the number of the refusal is shown
 
-inline-refusal : (q : ℕ) (i : Inline) → (inline_shown q i).refusal ≡ q
+inline-refusal : (q : ℕ) (i : Option ℕ) → (inline_shown q i).refusal ≡ q
 unfolding inline_shown
-inline-refusal q (I.Word w) = refl
-inline-refusal q I.NoWord = refl
+inline-refusal q (Some w) = refl
+inline-refusal q None = refl
 
 raw-refusal : (q : ℕ) (r : Raw) → (raw_shown q r).refusal ≡ q
 unfolding raw_shown

@@ -1,13 +1,12 @@
 -- What a call shows, as words: the number of the refusal or 0, the word answered, and what is answered beside it.
-use Rattle.std.specs.Prelude.{ℕ, ◌+◌, ◌*◌, Bool, true, false, ℤ}
+use Rattle.std.specs.Prelude
+use Rattle.std.specs.Prelude.{ℕ, ◌+◌, ◌*◌, Bool, true, false, ℤ, Some, None}
 use Rattle.std.proofs.Math.Option.{Option, none, some}
 use Rattle.std.specs.Float.Ieee as Ieee
 use Rattle.std.specs.Float.{binary64}
 use Rattle.words.specs.Word as Words
 use Rattle.words.specs.Word.{bits_of_signed}
 use Rattle.words.specs.declared.Raw.{Raw}
-use Rattle.words.specs.declared.Inline.{Inline}
-use Rattle.words.specs.declared.Inline.TheVariants as I
 use Rattle.model.specs.Replies.{Reply, nothing, number, signed, truth, perhaps, next_integer, noted, entry_is, frame_is, map_cursor, array_cursor, inline, raw, collected, Answer, reference_made, reply, Lent, no_memory, list, cursor_at}
 use Rattle.history.proofs.Lift.{Seen}
 use Rattle.answers.specs.declared.Shown.{Shown}
@@ -40,9 +39,9 @@ unfoldable pub is_past : Option ℤ → ℕ
 is_past none = 1
 is_past (some z) = 0
 
-unfoldable pub inline_shown : ℕ → Inline → Shown
-inline_shown q (I.Word w) = shows q w 1 0 0 0
-inline_shown q I.NoWord = shows q 0 0 0 0 0
+unfoldable pub inline_shown : ℕ → Prelude.Option ℕ → Shown
+inline_shown q (Some w) = shows q w 1 0 0 0
+inline_shown q None = shows q 0 0 0 0 0
 
 -- a word read: its value, and 0 nil, 1 truth, 2 integer, 3 float, 4 character, 5 reference
 unfoldable pub raw_shown : ℕ → Raw → Shown

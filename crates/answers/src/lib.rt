@@ -21,8 +21,8 @@ use collections_maps::{EntryRead, Moved, NextInt, Noted};
 use collector::Collection;
 use heap::{Done, Kind, Reading, Refusal, Signed, Test};
 use heap_access::FrameRead;
-use map_store::{Cursor, Found, Last};
-use words::{Inline, Raw};
+use map_store::Cursor;
+use words::Raw;
 
 // What a call shows: the number of the refusal or 0, the word answered, and what is answered
 // beside it.
@@ -92,21 +92,21 @@ fn kind_number(k: Kind) -> u64
     }
 }
 
-fn is_seq(l: Last) -> u64
+fn is_seq(l: Option<u64>) -> u64
     ensures { result ≡ Shows.yielded (last_is l) }
 {
     match l {
-        Last::Never => 0,
-        Last::Seq(q) => 1,
+        None => 0,
+        Some(q) => 1,
     }
 }
 
-fn seq_or_zero(l: Last) -> u64
+fn seq_or_zero(l: Option<u64>) -> u64
     ensures { result ≡ or_zero (last_is l) }
 {
     match l {
-        Last::Never => 0,
-        Last::Seq(q) => q,
+        None => 0,
+        Some(q) => q,
     }
 }
 
@@ -275,8 +275,8 @@ pub fn moved(c: Cursor, a: Moved) -> Shown
             let after = s.cursor;
             let found = s.found;
             match found {
-                Found::At(p) => with_cursor(0, p as u64, 1, after),
-                Found::Nothing => with_cursor(0, 0, 0, after),
+                Some(p) => with_cursor(0, p as u64, 1, after),
+                None => with_cursor(0, 0, 0, after),
             }
         }
         Moved::Refused(q) => with_cursor(heap::number_of(q), 0, 0, c),
@@ -292,12 +292,12 @@ pub fn collected(a: Collection) -> Shown
     }
 }
 
-pub fn inline(a: Inline) -> Shown
+pub fn inline(a: Option<u64>) -> Shown
     ensures { result ≡ shown_of (Heaps.answered (Replies.inline a)) }
 {
     match a {
-        Inline::Word(w) => shows(0, w, 1, 0, 0, 0),
-        Inline::NoWord => shows(0, 0, 0, 0, 0, 0),
+        Some(w) => shows(0, w, 1, 0, 0, 0),
+        None => shows(0, 0, 0, 0, 0, 0),
     }
 }
 

@@ -23,7 +23,9 @@ ghost use Rattle.capi.specs.Promise.{Delivers, DeliversSame, ShowsList, Words, h
 use answers::Shown;
 use heap::Heap;
 use heap_allocation::Coroutine;
-use map_store::{Cursor, Last};
+use layout::ReadLayout;
+use map_store::Cursor;
+use std::num::f64_from_bits_with_nan;
 
 // ---- the words lent
 
@@ -55,13 +57,13 @@ fn load_cursor(words: &[u64; 4]) -> Cursor
     let epoch = (words[3] % 4294967296) as u32;
     if words[0] == 0 {
         return Cursor {
-            last: Last::Never,
+            last: None,
             pos,
             epoch,
         };
     }
     Cursor {
-        last: Last::Seq(words[1]),
+        last: Some(words[1]),
         pos,
         epoch,
     }
@@ -99,7 +101,7 @@ pub extern "C" fn mch_char_word(c: u32, answer: &mut [u64; 6]) -> u64
 pub extern "C" fn mch_float_word(bits: u64, answer: &mut [u64; 6]) -> u64
     ensures { Words (Calls.float_word (of_bits binary64 bits)) result answer.new }
 {
-    let f = words::float_of_bits(bits);
+    let f = f64_from_bits_with_nan(bits);
     write_answer(answer, answers::number(words::from_f64(f)))
 }
 
@@ -348,8 +350,12 @@ pub extern "C" fn mch_collect(
     ensures order_unchanged { order.new ≡ order.old }
 {
     let h = heap_record::load(heap);
+    let read = ReadLayout {
+        bytes: layout,
+        table,
+    };
     let a = collector::collect(
-        h, slots, scalars, list, directory, cells, layout, table, marks, order, roots, places,
+        h, slots, scalars, list, directory, cells, read, marks, order, roots, places,
     );
     let next = a.heap;
     heap_record::save(heap, next);

@@ -13,11 +13,11 @@ ghost use Rattle.heap.proofs.ReachLaws.{Target};
 ghost use Rattle.collections_growth.specs.Growth.{changed_heap};
 ghost use Rattle.collections_arrays.specs.Arrays.{Appended, Appending, Extended, Extending, push_bytes, push_size};
 
-use account::Charged;
+use account::OverBudget;
 use collections_growth::{Changed, item, settle, unchanged, zero_fits};
 use heap::{Done, Heap, Located, Reading, Refusal, Settled, lookup};
 use heap_cells::Top;
-use heap_slots::kinds;
+use heap_slots::{LEN, kinds};
 
 // The capacity of an array after a push, and the bytes that it is charged.
 fn push_size(len: u64, size: u64) -> u64
@@ -54,7 +54,7 @@ fn append(slots: &mut [u64], cells: &mut [u64], i: usize, v: u64)
     let h = heap_slots::read_header(slots, i);
     let at = (h.start + h.len) as usize;
     cells[at] = v;
-    heap_slots::set_len(slots, i, h.len + 1);
+    heap_slots::set_word::<LEN>(slots, i, h.len + 1);
 }
 
 // The region of the array in slot i made `size` cells long, and an item of type t put behind the last; the regions' top afterwards.
@@ -112,10 +112,9 @@ fn push_at(
     let h = heap_slots::read_header(slots, i);
     let size = push_size(h.len, h.size);
     let more = size - h.size;
-    let account = heap.account;
-    match account.charge(push_bytes(h.len, h.size)) {
-        Charged::Refused => unchanged(heap, Done::Refused(Refusal::OverBudget)),
-        Charged::Next(next) => {
+    match heap.account.charge(push_bytes(h.len, h.size)) {
+        Err(OverBudget) => unchanged(heap, Done::Refused(Refusal::OverBudget)),
+        Ok(next) => {
             if (cells.len() as u64) - heap.taken < more {
                 return unchanged(heap, Done::Refused(Refusal::NoCells));
             }
@@ -160,7 +159,7 @@ pub fn pop(
             let v = item(
                 heap, slots, scalars, list, directory, cells, h.mode, cells[at],
             );
-            heap_slots::set_len(slots, i, h.len - 1);
+            heap_slots::set_word::<LEN>(slots, i, h.len - 1);
             Reading::Is(v)
         }
     }

@@ -8,11 +8,10 @@ use lib.Dec.{ltb}
 use borrow.Author.Tests.{ltb-false, ltb-true}
 use Rattle.map_store.specs.Store as Maps
 use Rattle.map_store.specs.View.{EntryAnswer, entry_answer, stored_entry, got_is}
-use Rattle.map_store.specs.declared.Got.{Got}
-use Rattle.map_store.specs.declared.Got.TheVariants as G
+use Rattle.std.specs.Prelude as Prelude
 use Rattle.map_store.specs.declared.Stored.{Stored}
 
-pub entry-inside : (pos : ℕ) (s : Maps.Store) {r : Got} {v : Stored} → got_is r ≡ entry_answer pos s → r ≡ G.Place v → (pos < Maps.places s) × (Maps.entry_of s pos ≡ stored_entry v)
+pub entry-inside : (pos : ℕ) (s : Maps.Store) {r : Prelude.Option Stored} {v : Stored} → got_is r ≡ entry_answer pos s → r ≡ Prelude.Some v → (pos < Maps.places s) × (Maps.entry_of s pos ≡ stored_entry v)
 unfolding Maps.entry_read
 entry-inside pos s {v = v} d e = go (ltb pos (Maps.places s)) refl (ap (λ (a : EntryAnswer). a.entry) (sym (ap got_is e) ∙ d))
   where
@@ -20,7 +19,7 @@ entry-inside pos s {v = v} d e = go (ltb pos (Maps.places s)) refl (ap (λ (a : 
     go true z h = (ltb-true pos (Maps.places s) z, (cc))
     go false z h = absurd (let y : ◌≡◌ {A = ℕ} 0 1 = cc in omega arith)
 
-pub entry_beyond : (pos : ℕ) (s : Maps.Store) {r : Got} → got_is r ≡ entry_answer pos s → r ≡ G.Outside → Maps.places s ≤ pos
+pub entry_beyond : (pos : ℕ) (s : Maps.Store) {r : Prelude.Option Stored} → got_is r ≡ entry_answer pos s → r ≡ Prelude.None → Maps.places s ≤ pos
 entry_beyond pos s d e = go (ltb pos (Maps.places s)) refl (ap (λ (a : EntryAnswer). a.refusal) (sym (ap got_is e) ∙ d))
   where
     go : (b : Bool) → ltb pos (Maps.places s) ≡ b → ◌≡◌ {A = ℕ} 3 (cond b 0 3) → Maps.places s ≤ pos

@@ -31,7 +31,11 @@ pub fn map_of(h: Header, x: MapScalars) -> MapStore
     ensures { result ≡ map_from h x }
 {
     MapStore {
-        noted: words::signed_of(x.noted),
+        noted: if x.known == 0 {
+            None
+        } else {
+            Some(words::signed_of(x.noted))
+        },
         len: h.len as usize,
         live: x.live as usize,
         fresh: x.next,
@@ -39,7 +43,6 @@ pub fn map_of(h: Header, x: MapScalars) -> MapStore
         index: h.mode as usize,
         epoch: x.epoch as u32,
         hashed: x.hashed != 0,
-        known: x.known != 0,
     }
 }
 

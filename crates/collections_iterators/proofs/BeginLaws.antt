@@ -1,4 +1,5 @@
 -- New iterators. Assumes nothing.
+use Rattle.std.proofs.Common.{Result, Ok, Err}
 use Prim.Native.Nat.{ℕ, ◌+◌}
 use mathlib.Core.Path.{◌≡◌, refl, ap, sym, ◌∙◌}
 use mathlib.Core.Bool.{Bool, false, ◌||◌}
@@ -11,8 +12,8 @@ use Rattle.heap_slots.specs.Header.{header_at, scalars_at, with_region}
 use Rattle.heap_slots.specs.Kinds.{ITERATOR}
 use Rattle.heap_slots.specs.Limits.{HALF}
 use Rattle.heap_slots.specs.Lookup.{Finds}
-use Rattle.heap_slots.specs.declared.FoundSlot.{FoundSlot}
-use Rattle.heap_slots.specs.declared.FoundSlot.TheVariants as F
+use Rattle.heap_slots.specs.declared.Miss.{Miss}
+use Rattle.heap_slots.specs.declared.Miss.TheVariants as F
 use Rattle.heap_slots.specs.declared.Header.{Header}
 use Rattle.heap_slots.specs.Scalars.{map_part}
 use Rattle.heap_slots.specs.declared.MapScalars.{MapScalars}
@@ -94,20 +95,20 @@ module _ {t : State} (g : Good t) {source : ℕ} where
   unfolding effect terms
   iterator-refused q keys k p = refused-own {c = new_iterator source keys} {s = no_room} q (λ l. target (view_of (model_of l t)) iterable source ∷ []) g (λ l. rw (k l)) (λ l. refl) (λ l. first_refuses [] q (p l))
 
-  module _ {f : FoundSlot} (d : Finds t.slots t.heap.fresh source f) where
-    pub iterates_nil : f ≡ F.Nil → Performs (Calls.new_iter source) t (made_is (Read.Refused No.NilTarget)) t
+  module _ {f : Result ℕ Miss} (d : Finds t.slots t.heap.fresh source f) where
+    pub iterates_nil : f ≡ Err F.Nil → Performs (Calls.new_iter source) t (made_is (Read.Refused No.NilTarget)) t
     unfolding key_type_of number_of
     iterates_nil e = iterator-refused No.NilTarget 0 (λ l. rw (nil-look l g d e)) (λ l. nil-target l g d e iterable)
 
-    pub iterates_dead : f ≡ F.Dead → Performs (Calls.new_iter source) t (made_is (Read.Refused No.DeadReference)) t
+    pub iterates_dead : f ≡ Err F.Dead → Performs (Calls.new_iter source) t (made_is (Read.Refused No.DeadReference)) t
     unfolding key_type_of number_of
     iterates_dead e = iterator-refused No.DeadReference 0 (λ l. rw (dead-look l g d e)) (λ l. dead-target l g d e iterable)
 
-    pub iterates_wrong : f ≡ F.Wrong → Performs (Calls.new_iter source) t (made_is (Read.Refused No.OtherKind)) t
+    pub iterates_wrong : f ≡ Err F.Wrong → Performs (Calls.new_iter source) t (made_is (Read.Refused No.OtherKind)) t
     unfolding key_type_of number_of
     iterates_wrong e = iterator-refused No.OtherKind 0 (λ l. rw (wrong_look l g d e)) (λ l. wrong_target l g d e iterable)
 
-    module _ {j : ℕ} {h : Header} (e : f ≡ F.At j) (eh : h ≡ header_at t.slots j) where
+    module _ {j : ℕ} {h : Header} (e : f ≡ Ok j) (eh : h ≡ header_at t.slots j) where
       row_is : row (content_of (raw_of t j) (more_of t j)) ≡ h.kind
       unfolding raw_at
       row_is =

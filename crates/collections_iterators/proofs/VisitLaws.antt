@@ -1,4 +1,5 @@
 -- An iterator's step. Assumes nothing.
+use Rattle.std.proofs.Common.{Result, Ok, Err}
 use Prim.Native.Nat.{ℕ, suc, ◌+◌, ◌≤◌, ◌<◌}
 use mathlib.Core.Path.{◌≡◌, refl, ap, sym, ◌∙◌}
 use mathlib.Core.Bool.{Bool, true, false, cond, ◌&&◌}
@@ -12,8 +13,8 @@ use lib.Seq.{get_or-take, length-take-le}
 use Rattle.heap_slots.specs.Header.{header_at, scalars_at, set_scalars, with_scalar}
 use Rattle.heap_slots.specs.Limits.{HALF, HALF_END}
 use Rattle.heap_slots.specs.Lookup.{Finds}
-use Rattle.heap_slots.specs.declared.FoundSlot.{FoundSlot}
-use Rattle.heap_slots.specs.declared.FoundSlot.TheVariants as F
+use Rattle.heap_slots.specs.declared.Miss.{Miss}
+use Rattle.heap_slots.specs.declared.Miss.TheVariants as F
 use Rattle.heap_slots.specs.declared.Header.{Header}
 use Rattle.heap_slots.specs.Scalars.{iterator_part, map_part, scalars_of_iterator}
 use Rattle.heap_slots.specs.declared.IteratorScalars.{IteratorScalars}
@@ -25,12 +26,10 @@ use Rattle.history.proofs.Facts.{eqb_no, eqb_yes, ltb_no, ltb_yes}
 use Rattle.layout.specs.Layout.{Layout}
 use Rattle.map_store.specs.Store as Maps
 use Rattle.map_store.specs.View.{cursor_is, entry_answer, stored_entry, got_is, position, step_is, store_of}
-use Rattle.map_store.specs.declared.Got.{Got}
-use Rattle.map_store.specs.declared.Got.TheVariants as G
+use Rattle.std.specs.Prelude as Prelude
 use Rattle.map_store.specs.declared.MapStore.{MapStore}
 use Rattle.map_store.specs.declared.Stepped.{Stepped}
 use Rattle.map_store.specs.declared.Stored.{Stored}
-use Rattle.map_store.specs.declared.Found.TheVariants as At
 use Rattle.model.specs.Content as Content
 use Rattle.model.specs.Content.{row}
 use Rattle.model.specs.View.{View, look}
@@ -132,12 +131,12 @@ module _ (t : State) (h : Header) (y : MapScalars) (x : IteratorScalars) {m : Ma
   next-is : Maps.next_of (store_of (map_from h y) (region_of h t.cells)) (cursor_of (scalars_of_iterator x)) ≡ step_is n
   next-is = sym (st ∙ rw (em, ec, eu))
 
-  pub map-ends : {r : Visit} → n.found ≡ At.Nothing → x.epoch < 4294967296 → Ends x r → VisitsMap t h y x r
+  pub map-ends : {r : Visit} → n.found ≡ Prelude.None → x.epoch < 4294967296 → Ends x r → VisitsMap t h y x r
   unfolding visit_map visit_entry
   map-ends e g z = record { is = λ l source keys. rw (next-is, e) (z.is source keys); epoch = omega (arith, z.epoch) }
 
-  module _ {p : ℕ} (e : n.found ≡ At.At p) {c' : List ℕ} {r : Got} (ec' : c' ≡ region_of h t.cells) (er : got_is r ≡ entry_answer p (store_of m c')) where
-    pub map_visits : {w : ℕ} {v : Stored} {z : IteratorScalars} → r ≡ G.Place v → ItemIs t y.values v.value w → Moves (cursor_is n.cursor) v.key z → VisitsMap t h y x record { next = z; item = Item w }
+  module _ {p : ℕ} (e : n.found ≡ Prelude.Some p) {c' : List ℕ} {r : Prelude.Option Stored} (ec' : c' ≡ region_of h t.cells) (er : got_is r ≡ entry_answer p (store_of m c')) where
+    pub map_visits : {w : ℕ} {v : Stored} {z : IteratorScalars} → r ≡ Prelude.Some v → ItemIs t y.values v.value w → Moves (cursor_is n.cursor) v.key z → VisitsMap t h y x record { next = z; item = Item w }
     unfolding visit_map visit_entry
     map_visits {w} {v} q i z = record {
       is = λ l source keys.
@@ -148,7 +147,7 @@ module _ (t : State) (h : Header) (y : MapScalars) (x : IteratorScalars) {m : Ma
     }
 
     -- a step finds none outside
-    pub map-inside : r ≡ G.Outside → ⊥
+    pub map-inside : r ≡ Prelude.None → ⊥
     map-inside q =
         let a = next-inside (store_of m c) u (ap (λ (s : Maps.Step). s.answer) (sym st) ∙ ap position e) in
         let b = entry_beyond p (store_of m c') er q in
@@ -188,7 +187,7 @@ pub visits_none : {t : State} {source : ℕ} {x : IteratorScalars} → (x.ended 
 unfolding visit_next Rules.ended
 visits_none {x = x} z g = record { is = λ l keys. rw (eqb_no x.ended 0 z); epoch = g }
 
-module _ {t : State} {source : ℕ} {f : FoundSlot} (g : Good t) (d : Finds t.slots t.heap.fresh source f) {j : ℕ} {h : Header} (e : f ≡ F.At j) (eh : h ≡ header_at t.slots j) where
+module _ {t : State} {source : ℕ} {f : Result ℕ Miss} (g : Good t) (d : Finds t.slots t.heap.fresh source f) {j : ℕ} {h : Header} (e : f ≡ Ok j) (eh : h ≡ header_at t.slots j) where
   pub source-array : h.kind ≡ 6 → ArrayKnown t h
   unfolding raw_at
   source-array k =
@@ -202,22 +201,22 @@ module _ {t : State} {source : ℕ} {f : FoundSlot} (g : Good t) (d : Finds t.sl
       let s = holds_as 7 (rw (← eh) k) (g.each j o.within) in
       rw (eh, ey) record { good = s.0; region = g.laid.inside j o.within; epoch = s.2 }
 
-module _ {t : State} {source : ℕ} {x : IteratorScalars} {f : FoundSlot} (g : Good t) (d : Finds t.slots t.heap.fresh source f) (z : x.ended ≡ 0) where
+-- a source that reaches nothing
+nowhere : {t : State} {source : ℕ} {f : Result ℕ Miss} → Good t → Finds t.slots t.heap.fresh source f → (m : Miss) → f ≡ Err m → (l : Layout) → look (view_of (model_of l t)) source ≡ none
+nowhere g d F.Nil e l = nil-look l g d e
+nowhere g d F.Dead e l = dead-look l g d e
+nowhere g d F.Wrong e l = wrong_look l g d e
+
+module _ {t : State} {source : ℕ} {x : IteratorScalars} {f : Result ℕ Miss} (g : Good t) (d : Finds t.slots t.heap.fresh source f) (z : x.ended ≡ 0) where
   -- a source that is nowhere
   visits_nowhere : {r : Visit} → ((l : Layout) → look (view_of (model_of l t)) source ≡ none) → x.epoch < 4294967296 → Ends x r → Visits t source x r
   unfolding visit_source
   visits_nowhere e u s = visit_going source (λ l keys. rw (e l) (s.is source keys)) z (omega (arith, s.epoch))
 
-  pub visits_nil : {r : Visit} → f ≡ F.Nil → x.epoch < 4294967296 → Ends x r → Visits t source x r
-  visits_nil e = visits_nowhere (λ l. nil-look l g d e)
+  pub visits_missed : {m : Miss} {r : Visit} → f ≡ Err m → x.epoch < 4294967296 → Ends x r → Visits t source x r
+  visits_missed {m} e = visits_nowhere (nowhere g d m e)
 
-  pub visits_dead : {r : Visit} → f ≡ F.Dead → x.epoch < 4294967296 → Ends x r → Visits t source x r
-  visits_dead e = visits_nowhere (λ l. dead-look l g d e)
-
-  pub visits_wrong : {r : Visit} → f ≡ F.Wrong → x.epoch < 4294967296 → Ends x r → Visits t source x r
-  visits_wrong e = visits_nowhere (λ l. wrong_look l g d e)
-
-  module _ {j : ℕ} {h : Header} (e : f ≡ F.At j) (eh : h ≡ header_at t.slots j) where
+  module _ {j : ℕ} {h : Header} (e : f ≡ Ok j) (eh : h ≡ header_at t.slots j) where
     pub visits_array : {r : Visit} → h.kind ≡ 6 → VisitsArray t h x r → Visits t source x r
     unfolding visit_source raw_at
     visits_array k v =

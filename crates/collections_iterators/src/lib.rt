@@ -18,8 +18,8 @@ ghost use Rattle.collections_iterators.specs.Visits.{ArrayKnown, MapKnown, Ends,
 use collections_growth::{Perhaps, item, map_of, region};
 use heap::{Heap, Located, Made, Reading, Refusal, Test, lookup};
 use heap_allocation::making;
-use heap_slots::{FoundSlot, Header, IteratorScalars, MapScalars, kinds};
-use map_store::{Cursor, Last};
+use heap_slots::{Header, IteratorScalars, MapScalars, Miss, Scalars, kinds};
+use map_store::{Cursor, Map};
 
 // An iterator's cursor: over an array its index alone.
 #[derive(Clone, Copy)]
@@ -52,13 +52,13 @@ fn cursor_of(x: IteratorScalars) -> Cursor
     let epoch = x.epoch as u32;
     if x.stepped == 0 {
         return Cursor {
-            last: Last::Never,
+            last: None,
             pos,
             epoch,
         };
     }
     Cursor {
-        last: Last::Seq(x.last),
+        last: Some(x.last),
         pos,
         epoch,
     }
@@ -84,7 +84,7 @@ fn moved_to(c: Cursor, key: u64) -> IteratorScalars
     let epoch = c.epoch as u64;
     let last = c.last;
     match last {
-        Last::Never => IteratorScalars {
+        None => IteratorScalars {
             ended: 0,
             keyed: 1,
             key,
@@ -93,7 +93,7 @@ fn moved_to(c: Cursor, key: u64) -> IteratorScalars
             position,
             epoch,
         },
-        Last::Seq(q) => IteratorScalars {
+        Some(q) => IteratorScalars {
             ended: 0,
             keyed: 1,
             key,
@@ -129,7 +129,7 @@ fn visit_array(
         heap, slots, scalars, list, directory, cells, h.mode, cells[at],
     );
     let c = Cursor {
-        last: Last::Never,
+        last: None,
         pos: (x.position + 1) as usize,
         epoch: 0,
     };
@@ -156,14 +156,17 @@ fn visit_map(
     requires epoch { x.epoch < 4294967296 }
     ensures { VisitsMap (state heap slots.now scalars.now list.now directory.now cells.now) h y x result }
 {
-    let m = map_of(h, y);
-    let s = map_store::step(m, region(cells, h), cursor_of(x));
+    let map = Map {
+        store: map_of(h, y),
+        cells: region(cells, h),
+    };
+    let s = map.step(cursor_of(x));
     let found = s.found;
     match found {
-        map_store::Found::Nothing => ended(x),
-        map_store::Found::At(p) => match map_store::entry(m, region(cells, h), p) {
-            map_store::Got::Outside => ended(x),
-            map_store::Got::Place(e) => {
+        None => ended(x),
+        Some(p) => match map.entry(p) {
+            None => ended(x),
+            Some(e) => {
                 let w = item(
                     heap, slots, scalars, list, directory, cells, y.values, e.value,
                 );
@@ -199,16 +202,14 @@ fn advance(
         };
     }
     match heap_slots::find(slots, heap.fresh, source) {
-        FoundSlot::Nil => ended(x),
-        FoundSlot::Dead => ended(x),
-        FoundSlot::Wrong => ended(x),
-        FoundSlot::At(j) => {
+        Err(_) => ended(x),
+        Ok(j) => {
             let h = heap_slots::read_header(slots, j);
             if h.kind == kinds::ARRAY {
                 return visit_array(heap, slots, scalars, list, directory, cells, h, x);
             }
             if h.kind == kinds::MAP {
-                let y = heap_slots::read_map(scalars, j);
+                let y: MapScalars = heap_slots::read_part(scalars, j);
                 return visit_map(heap, slots, scalars, list, directory, cells, h, y, x);
             }
             ended(x)
@@ -276,7 +277,7 @@ pub fn iter_ended(
     match lookup::locate(slots, heap.fresh, w, kinds::ITERATOR) {
         Located::Refused(q) => Test::Refused(q),
         Located::At(i) => {
-            let x = heap_slots::read_iterator(scalars, i);
+            let x: IteratorScalars = heap_slots::read_part(scalars, i);
             Test::Is(x.ended != 0)
         }
     }
@@ -298,7 +299,7 @@ pub fn iter_key(
     match lookup::locate(slots, heap.fresh, w, kinds::ITERATOR) {
         Located::Refused(q) => Perhaps::Refused(q),
         Located::At(i) => {
-            let x = heap_slots::read_iterator(scalars, i);
+            let x: IteratorScalars = heap_slots::read_part(scalars, i);
             if x.keyed == 0 {
                 return Perhaps::Absent;
             }
@@ -324,7 +325,7 @@ pub fn iter_cursor(
         Located::Refused(q) => CursorRead::Refused(q),
         Located::At(i) => {
             let h = heap_slots::read_header(slots, i);
-            let x = heap_slots::read_iterator(scalars, i);
+            let x: IteratorScalars = heap_slots::read_part(scalars, i);
             if lookup::row_at(slots, heap.fresh, h.value) == kinds::ARRAY {
                 return CursorRead::Index(x.position);
             }
@@ -350,10 +351,10 @@ pub fn iter_next(
         Located::Refused(q) => Perhaps::Refused(q),
         Located::At(i) => {
             let h = heap_slots::read_header(slots, i);
-            let x = heap_slots::read_iterator(scalars, i);
+            let x: IteratorScalars = heap_slots::read_part(scalars, i);
             let v = advance(heap, slots, scalars, list, directory, cells, h.value, x);
             let next = v.next;
-            heap_slots::write_scalars(scalars, i, heap_slots::scalars_of_iterator(next));
+            heap_slots::write_scalars(scalars, i, Scalars::from(next));
             let item = v.item;
             match item {
                 Visited::End => Perhaps::Absent,
@@ -378,8 +379,13 @@ fn begin_iter(
     ensures { Begins (state heap slots.old scalars.old list.now directory.now cells.now) source keys result.answer (state result.heap slots.new scalars.new list.now directory.now cells.now) }
 {
     let weights = heap.weights;
-    let h = heap_slots::fresh_header(kinds::ITERATOR, source, keys, 0, 0);
-    let x = heap_slots::scalars_of_iterator(IteratorScalars {
+    let h = Header {
+        kind: kinds::ITERATOR,
+        value: source,
+        mode: keys,
+        ..Header::EMPTY
+    };
+    let x = Scalars::from(IteratorScalars {
         ended: 0,
         keyed: 0,
         key: 0,
@@ -415,25 +421,25 @@ pub fn new_iter(
     ensures { Performs (Calls.new_iter source) (state heap slots.old scalars.old list.now directory.now cells.now) (made_is result.answer) (state result.heap slots.new scalars.new list.now directory.now cells.now) }
 {
     match heap_slots::find(slots, heap.fresh, source) {
-        FoundSlot::Nil => Made {
+        Err(Miss::Nil) => Made {
             heap,
             answer: Reading::Refused(Refusal::NilTarget),
         },
-        FoundSlot::Dead => Made {
+        Err(Miss::Dead) => Made {
             heap,
             answer: Reading::Refused(Refusal::DeadReference),
         },
-        FoundSlot::Wrong => Made {
+        Err(Miss::Wrong) => Made {
             heap,
             answer: Reading::Refused(Refusal::OtherKind),
         },
-        FoundSlot::At(j) => {
+        Ok(j) => {
             let h = heap_slots::read_header(slots, j);
             if h.kind == kinds::ARRAY {
                 return begin_iter(heap, slots, scalars, list, directory, cells, source, 0);
             }
             if h.kind == kinds::MAP {
-                let x = heap_slots::read_map(scalars, j);
+                let x: MapScalars = heap_slots::read_part(scalars, j);
                 return begin_iter(heap, slots, scalars, list, directory, cells, source, x.keys);
             }
             Made {

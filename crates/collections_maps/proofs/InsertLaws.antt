@@ -20,8 +20,7 @@ use Rattle.map_store.specs.Store as Maps
 use Rattle.map_store.specs.Map as Map
 use Rattle.map_store.specs.View.{position, store_of}
 use Rattle.map_store.specs.View as View
-use Rattle.map_store.specs.declared.Found.{Found}
-use Rattle.map_store.specs.declared.Found.TheVariants as F
+use Rattle.std.specs.Prelude as Prelude
 use Rattle.map_store.specs.declared.MapStore.{MapStore}
 use Rattle.model.specs.Calls as Calls
 use Rattle.model.specs.Calls.{Call, effect}
@@ -176,14 +175,14 @@ put-refused-by l {t} {w} {hash} {key} {value} (some p) g d e f = object-refused 
 pub put_refused : {t : State} {w hash key value : ℕ} {r : Located} {q : Refusal} → Good t → Locates t.slots t.heap.fresh w 7 r → r ≡ L.Refused q → Performs (Calls.put w hash key value) t (refused q) t
 put_refused g d e l = put-refused-by l _ g d e refl
 
-module _ {t : State} {w i : ℕ} {h : Header} {x : Scalars} {s : MapStore} {c : List ℕ} (m : MapHere t w i h x s c) {f : Found} {hash key : ℕ} (k : Sought x s c hash key f) where
+module _ {t : State} {w i : ℕ} {h : Header} {x : Scalars} {s : MapStore} {c : List ℕ} (m : MapHere t w i h x s c) {f : Prelude.Option ℕ} {hash key : ℕ} (k : Sought x s c hash key f) where
   found-is : {o : Option ℕ} → position f ≡ o → (l : Layout) → Maps.find (key_traced (model_of l t) w) hash key (map_store (model_of l t) w) ≡ o
   found-is e l = rw (here-traced m l, here-store m l) (sym k.is ∙ e)
 
   here-find : {o : Option ℕ} → position f ≡ o → Maps.find (is_traced x.a) hash key (store_of s c) ≡ o
   here-find e = sym k.is ∙ e
 
-  put-row : (value : ℕ) → f ≡ F.Nothing → InsertRow t w i hash key value (Calls.put w hash key value)
+  put-row : (value : ℕ) → f ≡ Prelude.None → InsertRow t w i hash key value (Calls.put w hash key value)
   unfolding terms effect put_terms on_map map_room put_room insert_room if_found Maps.put_at
   put-row value e = record {
     content = λ l. on_map (λ z. Maps.put z hash key value);
@@ -194,10 +193,10 @@ module _ {t : State} {w i : ℕ} {h : Header} {x : Scalars} {s : MapStore} {c : 
     room_is = λ l. rw (here-content m, here-find (ap position e));
   }
 
-  pub put_inserts : {value : ℕ} {o : Seen} {a : State} → f ≡ F.Nothing → Inserts t i hash key value o a → Performs (Calls.put w hash key value) t o a
+  pub put_inserts : {value : ℕ} {o : Seen} {a : State} → f ≡ Prelude.None → Inserts t i hash key value o a → Performs (Calls.put w hash key value) t o a
   put_inserts {value} e v = v.does w (Calls.put w hash key value) m.target (put-row value e)
 
-  module _ {pos : ℕ} (e : f ≡ F.At pos) where
+  module _ {pos : ℕ} (e : f ≡ Prelude.Some pos) where
     put-terms : (value : ℕ) (l : Layout) → terms (model_of l t) (Calls.put w hash key value) ≡ charging (target (view_of (model_of l t)) a_map w ∷ []) 0 nothing
     unfolding terms put_terms
     put-terms value l = rw (found-is (ap position e) l)

@@ -22,13 +22,8 @@ use Rattle.map_store.specs.Entries.{length_entries}
 use Rattle.map_store.specs.Map as Map
 use Rattle.map_store.specs.View.{cursor_is, entry_answer, stored_entry, got_is, next_is, noted_of, position, step_is, store_of}
 use Rattle.map_store.specs.View as View
-use Rattle.map_store.specs.declared.Found.{Found}
-use Rattle.map_store.specs.declared.Found.TheVariants as F
-use Rattle.map_store.specs.declared.Got.{Got}
-use Rattle.map_store.specs.declared.Got.TheVariants as G
+use Rattle.std.specs.Prelude as Prelude
 use Rattle.map_store.specs.declared.MapStore.{MapStore}
-use Rattle.map_store.specs.declared.NextKey.{NextKey}
-use Rattle.map_store.specs.declared.NextKey.TheVariants as N
 use Rattle.map_store.specs.declared.Stepped.{Stepped}
 use Rattle.map_store.specs.declared.Stored.{Stored}
 use Rattle.model.specs.Calls as Calls
@@ -44,7 +39,7 @@ use Rattle.heap.specs.declared.Refusal.{Refusal}
 use Rattle.heap.specs.declared.Refusal.TheVariants as No
 use Rattle.heap.specs.declared.Reading.TheVariants as Read
 use Rattle.heap.specs.Answers.{answered, number_of, reading_is, refused}
-use Rattle.heap.specs.Kinds.{yes}
+use Rattle.heap.specs.Kinds.{noted_from, yes}
 use Rattle.heap.specs.Locating.{Locates}
 use Rattle.heap.specs.State.{State, model_of, more_of, raw_of}
 use Rattle.heap.specs.Good.{Good}
@@ -76,10 +71,10 @@ module _ {t : State} {w i : ℕ} (g : Good t) (o : Target t w i 7) where
 
 -- ---- the noted key
 
-noted-by : (n : ℕ) (z : ℤ) → noted_of (yes n) z ≡ cond (eqb n 0) none (some z)
-noted-by n z = go (eqb n 0)
+noted-by : (n w : ℕ) → noted_of (noted_from n w) ≡ cond (eqb n 0) none (some (signed_bits w))
+noted-by n w = go (eqb n 0)
   where
-    go : (b : Bool) → noted_of (not b) z ≡ cond b none (some z)
+    go : (b : Bool) → noted_of (cond b Prelude.None (Prelude.Some (signed_bits w))) ≡ cond b none (some (signed_bits w))
     go true = refl
     go false = refl
 
@@ -168,13 +163,13 @@ module _ {t : State} {w i : ℕ} {h : Header} {x : Scalars} {s : MapStore} {c : 
 
   -- ---- what the calls answer
 
-  pub find_at : {f : Found} {b : Bool} {hash key pos : ℕ} → b ≡ is_traced x.a → position f ≡ Maps.find b hash key (store_of s c) → f ≡ F.At pos → Reads (Calls.find w hash key) t (answered (perhaps (some pos)))
+  pub find_at : {f : Prelude.Option ℕ} {b : Bool} {hash key pos : ℕ} → b ≡ is_traced x.a → position f ≡ Maps.find b hash key (store_of s c) → f ≡ Prelude.Some pos → Reads (Calls.find w hash key) t (answered (perhaps (some pos)))
   unfolding terms effect uncharged
   find_at {hash = hash} {key = key} b f e =
       row-answered m.good record { effect_is = λ l. refl; terms_are = λ l. refl } says_map m.target
       (λ l. ap perhaps (rw (here-traced l, here-store l, ← b) (sym f ∙ ap position e)))
 
-  pub find-nothing : {f : Found} {b : Bool} {hash key : ℕ} → b ≡ is_traced x.a → position f ≡ Maps.find b hash key (store_of s c) → f ≡ F.Nothing → Reads (Calls.find w hash key) t (answered (perhaps none))
+  pub find-nothing : {f : Prelude.Option ℕ} {b : Bool} {hash key : ℕ} → b ≡ is_traced x.a → position f ≡ Maps.find b hash key (store_of s c) → f ≡ Prelude.None → Reads (Calls.find w hash key) t (answered (perhaps none))
   unfolding terms effect uncharged
   find-nothing b f e =
       row-answered m.good record { effect_is = λ l. refl; terms_are = λ l. refl } says_map m.target
@@ -186,26 +181,26 @@ module _ {t : State} {w i : ℕ} {h : Header} {x : Scalars} {s : MapStore} {c : 
       row-answered m.good record { effect_is = λ l. refl; terms_are = λ l. refl } says_map m.target
       (λ l. ap number (rw (here-traced l, here-store l, here-room l, ← b) (sym e)))
 
-  pub next-is : {n : NextKey} {k : ℤ} → next_is n ≡ Maps.key_after_noted (store_of s c) → n ≡ N.Key k → Reads (Calls.next_key w) t (answered (next_integer (some k)))
+  pub next-is : {n : Prelude.Option ℤ} {k : ℤ} → next_is n ≡ Maps.key_after_noted (store_of s c) → n ≡ Prelude.Some k → Reads (Calls.next_key w) t (answered (next_integer (some k)))
   unfolding terms effect uncharged
   next-is f e =
       row-answered m.good record { effect_is = λ l. refl; terms_are = λ l. refl } says_map m.target
       (λ l. ap next_integer (rw (here-store l) (sym f ∙ ap next_is e)))
 
-  pub next_past : {n : NextKey} → next_is n ≡ Maps.key_after_noted (store_of s c) → n ≡ N.Past → Reads (Calls.next_key w) t (answered (next_integer none))
+  pub next_past : {n : Prelude.Option ℤ} → next_is n ≡ Maps.key_after_noted (store_of s c) → n ≡ Prelude.None → Reads (Calls.next_key w) t (answered (next_integer none))
   unfolding terms effect uncharged
   next_past f e =
       row-answered m.good record { effect_is = λ l. refl; terms_are = λ l. refl } says_map m.target
       (λ l. ap next_integer (rw (here-store l) (sym f ∙ ap next_is e)))
 
   -- an entry inside, or 3
-  pub entry_at : {n : Got} {e : Stored} {pos : ℕ} → got_is n ≡ entry_answer pos (store_of s c) → n ≡ G.Place e → Reads (Calls.read_entry w pos) t (answered (entry_is (stored_entry e)))
+  pub entry_at : {n : Prelude.Option Stored} {e : Stored} {pos : ℕ} → got_is n ≡ entry_answer pos (store_of s c) → n ≡ Prelude.Some e → Reads (Calls.read_entry w pos) t (answered (entry_is (stored_entry e)))
   unfolding terms effect uncharged
   entry_at {pos = pos} f e l =
       let z = entry-inside pos (store_of s c) f e in
       object-inside l m.good (Calls.read_entry w pos) m.target says_map {p = pos} {n = Maps.places (map_store (model_of l t) w)} refl (rw (here-store l) z.0) refl refl refl (ap entry_is (rw (here-store l) z.1))
 
-  pub entry-outside : {n : Got} {pos : ℕ} → got_is n ≡ entry_answer pos (store_of s c) → n ≡ G.Outside → Reads (Calls.read_entry w pos) t (refused No.Outside)
+  pub entry-outside : {n : Prelude.Option Stored} {pos : ℕ} → got_is n ≡ entry_answer pos (store_of s c) → n ≡ Prelude.None → Reads (Calls.read_entry w pos) t (refused No.Outside)
   unfolding terms effect uncharged
   entry-outside {pos = pos} f e l =
       object-outside l m.good (Calls.read_entry w pos) m.target says_map {p = pos} {n = Maps.places (map_store (model_of l t) w)} refl (rw (here-store l) (entry_beyond pos (store_of s c) f e)) refl
@@ -218,10 +213,10 @@ module _ {t : State} {w i : ℕ} {h : Header} {x : Scalars} {s : MapStore} {c : 
 
 -- ---- where a key stands
 
-pub record Sought (x : Scalars) (s : MapStore) (c : List ℕ) (hash key : ℕ) (f : Found) : Type 0 where
+pub record Sought (x : Scalars) (s : MapStore) (c : List ℕ) (hash key : ℕ) (f : Prelude.Option ℕ) : Type 0 where
   pub is : position f ≡ Maps.find (is_traced x.a) hash key (store_of s c)
 
-pub sought : {x : Scalars} {s : MapStore} {c : List ℕ} {hash key : ℕ} {f : Found} {b : Bool} → b ≡ is_traced x.a → position f ≡ Maps.find b hash key (store_of s c) → Sought x s c hash key f
+pub sought : {x : Scalars} {s : MapStore} {c : List ℕ} {hash key : ℕ} {f : Prelude.Option ℕ} {b : Bool} → b ≡ is_traced x.a → position f ≡ Maps.find b hash key (store_of s c) → Sought x s c hash key f
 sought e h = record { is = rw e at h }
 
 -- ---- one number of a map that is located
@@ -269,7 +264,7 @@ module _ {t : State} {w i : ℕ} {r : Located} (g : Good t) (d : Locates t.slots
 
 module _ {t : State} {w i : ℕ} {x : MapScalars} {r : Located} (g : Good t) (d : Locates t.slots t.heap.fresh w 7 r) (e : r ≡ L.At i) (p : x ≡ map_part (scalars_at t.scalars i)) where
   noted-is : (l : Layout) → (map_store (model_of l t) w).noted ≡ cond (eqb x.known 0) none (some (signed_bits x.noted))
-  noted-is l = ap (λ (s : Maps.Store). s.noted) (reads_map_store l (located_at g d e)) ∙ rw p (noted-by (scalars_at t.scalars i).d (signed_bits (scalars_at t.scalars i).e))
+  noted-is l = ap (λ (s : Maps.Store). s.noted) (reads_map_store l (located_at g d e)) ∙ rw p (noted-by (scalars_at t.scalars i).d (scalars_at t.scalars i).e)
 
   pub noted_nothing : x.known ≡ 0 → Reads (Calls.noted_key w) t (answered (noted none))
   unfolding terms effect uncharged
@@ -351,10 +346,10 @@ module _ {k : Calls.Call} {t : State} (z : Maps.Cursor) (m : Moved) (h : Reads k
   unfolding step_seen lent_seen perhaps_is
   lent-kept e = rw e at h
 
-  pub lent-ended : (s : Stepped) → m ≡ M.Is s → s.found ≡ F.Nothing → Reads k t (lent_seen (cursor_is s.cursor) P.Absent)
+  pub lent-ended : (s : Stepped) → m ≡ M.Is s → s.found ≡ Prelude.None → Reads k t (lent_seen (cursor_is s.cursor) P.Absent)
   unfolding step_seen lent_seen perhaps_is
   lent-ended s e f = rw f at (rw e at h)
 
-  pub lent-moved : (s : Stepped) {p : ℕ} → m ≡ M.Is s → s.found ≡ F.At p → Reads k t (lent_seen (cursor_is s.cursor) (P.Is p))
+  pub lent-moved : (s : Stepped) {p : ℕ} → m ≡ M.Is s → s.found ≡ Prelude.Some p → Reads k t (lent_seen (cursor_is s.cursor) (P.Is p))
   unfolding step_seen lent_seen perhaps_is
   lent-moved s e f = rw f at (rw e at h)

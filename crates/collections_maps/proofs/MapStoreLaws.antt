@@ -53,7 +53,7 @@ yes_flag true = refl
 yes_flag false = refl
 
 map_back : (r : RawSlot) (x : Scalars) (n : MapStore) {s s' t t' : List ℕ} {i : ℕ} → MapWritten s s' t t' i n → map_of (raw_words r n.capacity n.index n.len) (map_scalars x n) ≡ n
-map_back r x n w = rw (w.noted, yes_flag n.hashed, yes_flag n.known)
+map_back r x n w = rw (w.noted, yes_flag n.hashed)
 
 -- the map's contents, its record n and its cells c
 abbrev pub map_content : Scalars → MapStore → List ℕ → Content

@@ -15,8 +15,7 @@ use Rattle.layout.specs.Layout.{Layout, is_traced}
 use Rattle.map_store.specs.Store as Maps
 use Rattle.map_store.specs.View.{position, store_of}
 use Rattle.map_store.specs.View as View
-use Rattle.map_store.specs.declared.Found.{Found}
-use Rattle.map_store.specs.declared.Found.TheVariants as F
+use Rattle.std.specs.Prelude as Prelude
 use Rattle.map_store.specs.declared.MapStore.{MapStore}
 use Rattle.model.specs.Calls as Calls
 use Rattle.model.specs.Calls.{Call, effect}
@@ -124,11 +123,11 @@ module _ {t : State} {w : ℕ} {r : Located} (g : Good t) (d : Locates t.slots t
 
 -- ---- by key
 
-module _ {t : State} {w i : ℕ} {h : Header} {x : Scalars} {s : MapStore} {c : List ℕ} (m : MapHere t w i h x s c) {f : Found} {hash key : ℕ} (k : Sought x s c hash key f) where
+module _ {t : State} {w i : ℕ} {h : Header} {x : Scalars} {s : MapStore} {c : List ℕ} (m : MapHere t w i h x s c) {f : Prelude.Option ℕ} {hash key : ℕ} (k : Sought x s c hash key f) where
   here-find : {o : Option ℕ} → position f ≡ o → Maps.find (is_traced x.a) hash key (store_of s c) ≡ o
   here-find e = sym k.is ∙ e
 
-  remove-row : {pos : ℕ} → f ≡ F.At pos → RemoveRow t w i pos (Calls.remove w hash key)
+  remove-row : {pos : ℕ} → f ≡ Prelude.Some pos → RemoveRow t w i pos (Calls.remove w hash key)
   unfolding terms effect on_map map_room remove_room remove_at_room if_found Maps.removed_found
   remove-row e = record {
     content = λ l. on_map (λ z. Maps.removed_key z hash key);
@@ -139,10 +138,10 @@ module _ {t : State} {w i : ℕ} {h : Header} {x : Scalars} {s : MapStore} {c : 
     room_is = λ l. rw (here-content m, here-find (ap position e));
   }
 
-  pub remove-found : {pos : ℕ} {o : Seen} {a : State} → f ≡ F.At pos → Removes t i pos o a → Performs (Calls.remove w hash key) t o a
+  pub remove-found : {pos : ℕ} {o : Seen} {a : State} → f ≡ Prelude.Some pos → Removes t i pos o a → Performs (Calls.remove w hash key) t o a
   remove-found e v = v.does w (Calls.remove w hash key) m.target (remove-row e)
 
-  absent_stored : f ≡ F.Nothing → Stored t t i (on_map (λ z. Maps.removed_key z hash key)) (map_room (remove_room hash key))
+  absent_stored : f ≡ Prelude.None → Stored t t i (on_map (λ z. Maps.removed_key z hash key)) (map_room (remove_room hash key))
   unfolding on_map map_room remove_room if_found Maps.removed_found
   absent_stored e = record {
     touched = touched_none i m.good;
@@ -151,7 +150,7 @@ module _ {t : State} {w i : ℕ} {h : Header} {x : Scalars} {s : MapStore} {c : 
     room = rw (here-content m, here-find (ap position e));
   }
 
-  pub remove_absent : f ≡ F.Nothing → Performs (Calls.remove w hash key) t (answered nothing) t
+  pub remove_absent : f ≡ Prelude.None → Performs (Calls.remove w hash key) t (answered nothing) t
   unfolding terms effect uncharged
   remove_absent e l =
       does_stored_free l m.good m.target.reached (absent_stored e) (Calls.remove w hash key) refl refl refl (object_passes l m.good (Calls.remove w hash key) m.target says_map refl) refl refl

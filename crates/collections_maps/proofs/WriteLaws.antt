@@ -3,34 +3,32 @@ use Prim.Native.Nat.{ℕ, ◌+◌, ◌-◌, ◌*◌, ◌≤◌, ◌<◌}
 use mathlib.Core.Path.{◌≡◌, ap, ◌∙◌}
 use mathlib.Core.List.{List}
 use lib.ListN.{length}
-use mir.Syntax.{w64}
-use mir.Val.{SFits}
 use borrow.Rule.Slice.PartMut.{mid_of, put_mid}
 use Rattle.heap_slots.specs.Header.{header_at, scalars_at, set_header, set_scalars}
 use Rattle.heap_slots.specs.Limits.{SLOT_WORDS}
-use Rattle.words.specs.Word.{bits_of_signed}
+use Rattle.std.specs.Prelude.{is_some}
+use Rattle.heap.specs.Kinds.{noted_from}
 use Rattle.heap_slots.specs.declared.Header.{Header}
 use Rattle.heap_slots.specs.Scalars.{map_part, scalars_of_map}
 use Rattle.heap_slots.specs.declared.MapScalars.{MapScalars}
 use Rattle.heap_slots.specs.declared.Scalars.{Scalars}
-use Rattle.words.proofs.Signed64.{signed_bits_lem}
 use Rattle.heap_cells.specs.Regions.{region_of}
 use Rattle.map_store.specs.Map as Map
 use Rattle.map_store.specs.declared.MapStore.{MapStore}
 use Rattle.heap.proofs.StepLaws.{OwnCells, own-header, own-scalars, own_words}
-use Rattle.collections_maps.specs.Written.{MapWritten, flag_of}
+use Rattle.collections_maps.specs.Written.{MapWritten, flag_of, noted_bits}
 use Rattle.collections_growth.proofs.RegionLaws.{put-own, put-region, region-part}
 
 abbrev scalars_with : MapScalars → ℕ → ℕ → ℕ → MapStore → MapScalars
 scalars_with x hashed known noted s = record { keys = x.keys; values = x.values; hashed = hashed; known = known; noted = noted; next = s.fresh; epoch = s.epoch; live = s.live }
 
 pub map-written : {slots scalars slots' scalars' : List ℕ} {i c d e : ℕ} {h : Header} {x : MapScalars} {y : Scalars} {s : MapStore} → i * SLOT_WORDS + SLOT_WORDS ≤ length slots → i * SLOT_WORDS + SLOT_WORDS ≤ length scalars →
-    h ≡ header_at slots i → x ≡ map_part (scalars_at scalars i) → c ≡ flag_of s.hashed → d ≡ flag_of s.known → e ≡ bits_of_signed s.noted → SFits w64 s.noted → s.epoch < 4294967296 →
+    h ≡ header_at slots i → x ≡ map_part (scalars_at scalars i) → c ≡ flag_of s.hashed → d ≡ flag_of (is_some s.noted) → e ≡ noted_bits s.noted → noted_from (flag_of (is_some s.noted)) (noted_bits s.noted) ≡ s.noted → s.epoch < 4294967296 →
     slots' ≡ set_header slots i (own_words h s.capacity s.index s.len) → y ≡ scalars_of_map (scalars_with x c d e s) → scalars' ≡ set_scalars scalars i y → MapWritten slots scalars slots' scalars' i s
 map-written {slots} {scalars} {i = i} {s = s} fits fits' eh ex ec ed ee f g es ey exs = record {
   header = own-header fits (es ∙ ap (λ (z : Header). set_header slots i (own_words z s.capacity s.index s.len)) eh);
   words = own-scalars fits' (exs ∙ rw (ey, ex, ec, ed, ee));
-  noted = signed_bits_lem s.noted f;
+  noted = f;
   epoch = g;
 }
 

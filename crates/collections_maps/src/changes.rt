@@ -1,9 +1,9 @@
 // New maps, and changes of maps.
-ghost use Rattle.std.specs.Prelude.{◌≡◌, ◌+◌, ◌*◌, ◌≤◌, ◌<◌, length};
+ghost use Rattle.std.specs.Prelude.{is_some, ◌≡◌, ◌+◌, ◌*◌, ◌≤◌, ◌<◌, length};
 ghost use Rattle.heap_slots.specs.Kinds.{MAP};
 ghost use Rattle.heap_slots.specs.Limits.{SLOT_WORDS, SLOTS_MAX};
 ghost use Rattle.map_store.specs.Store as Maps;
-ghost use Rattle.map_store.specs.Map as Map;
+ghost use Rattle.map_store.specs.Map as MapFacts;
 ghost use Rattle.heap_cells.specs.Regions.{region_of};
 ghost use Rattle.model.specs.Calls as Calls;
 ghost use Rattle.heap.specs.Answers.{done_is, made_is};
@@ -13,22 +13,33 @@ ghost use Rattle.heap.specs.Promise.{Performs};
 ghost use Rattle.heap.proofs.ReachLaws.{Target};
 ghost use Rattle.heap.proofs.StepLaws.{OwnCells};
 ghost use Rattle.collections_growth.specs.Growth.{changed_heap};
-ghost use Rattle.collections_maps.specs.Written.{MapWritten, flag_of};
+ghost use Rattle.collections_maps.specs.Written.{MapWritten, flag_of, noted_bits};
+ghost use Rattle.heap.specs.Kinds.{noted_from};
 ghost use Rattle.collections_maps.specs.Changes.{Inserting, Removing, RemovingKey, InRegion, IsMap, InsertAsks, Inserts, Ready, RemoveAsks, Removes, Rewritten, cells_at, room_after, room_without, room_without_key};
 
 use crate::{Insertion, Removal, readings};
-use account::Charged;
 use collections_growth::{Changed, longer, map_of, region, settle, unchanged, zero_fits};
 use heap::{Done, Heap, Located, Made, Reading, Refusal, Settled, lookup};
 use heap_allocation::making;
 use heap_cells::Top;
-use heap_slots::{Header, MapScalars, kinds};
-use map_store::MapStore;
+use heap_slots::{Header, MapScalars, Scalars, kinds};
+use map_store::{Map, MapStore};
 
 fn flag(b: bool) -> u64
     ensures { result ≡ flag_of b }
 {
     if b { 1 } else { 0 }
+}
+
+// The noted key's word, 0 where there is none.
+fn noted_word(noted: Option<i64>) -> u64
+    ensures word { result ≡ noted_bits noted }
+    ensures back { noted_from (flag_of (is_some noted)) result ≡ noted }
+{
+    match noted {
+        Some(k) => words::bits_of(k),
+        None => 0,
+    }
 }
 
 // The map's record, written to the header and the scalars of slot i.
@@ -37,7 +48,7 @@ fn write_map(slots: &mut [u64], scalars: &mut [u64], i: usize, s: MapStore)
     ensures { MapWritten slots.old scalars.old slots.new scalars.new i s }
 {
     let h = heap_slots::read_header(slots, i);
-    let x = heap_slots::read_map(scalars, i);
+    let x: MapScalars = heap_slots::read_part(scalars, i);
     let mut g = h;
     g.value = s.capacity as u64;
     g.mode = s.index as u64;
@@ -45,24 +56,24 @@ fn write_map(slots: &mut [u64], scalars: &mut [u64], i: usize, s: MapStore)
     heap_slots::write_header(slots, i, g);
     let mut y = x;
     y.hashed = flag(s.hashed);
-    y.known = flag(s.known);
-    y.noted = words::bits_of(s.noted);
+    y.known = flag(s.noted.is_some());
+    y.noted = noted_word(s.noted);
     y.next = s.fresh;
     y.epoch = s.epoch as u64;
     y.live = s.live as u64;
-    heap_slots::write_scalars(scalars, i, heap_slots::scalars_of_map(y));
+    heap_slots::write_scalars(scalars, i, Scalars::from(y));
 }
 
 // The value of a map's entry, set in the map's cells.
 fn set_value_in(cells: &mut [u64], h: Header, s: MapStore, pos: usize, v: u64)
     requires inside { h.start + h.size ≤ length cells.old }
-    requires good { Map.Good s (region_of h cells.old) }
+    requires good { MapFacts.Good s (region_of h cells.old) }
     ensures own { OwnCells cells.old cells.new h.start h.size }
-    ensures value { Map.Valued pos v s (region_of h cells.old) (region_of h cells.new) }
+    ensures value { MapFacts.Valued pos v s (region_of h cells.old) (region_of h cells.new) }
 {
     let from = h.start as usize;
     let to = from + h.size as usize;
-    map_store::set_value(s, &mut cells[from..to], pos, v);
+    s.set_value(&mut cells[from..to], pos, v);
 }
 
 // An entry added in the map's cells, where there is room for it.
@@ -80,7 +91,9 @@ fn insert_in(
 {
     let from = h.start as usize;
     let to = from + h.size as usize;
-    map_store::insert(s, &mut cells[from..to], traced, hash, key, value)
+    let mut r = s;
+    r.insert(&mut cells[from..to], traced, hash, key, value);
+    r
 }
 
 // An entry removed in the map's cells, where there is room for the index.
@@ -90,7 +103,9 @@ fn remove_in(cells: &mut [u64], h: Header, s: MapStore, pos: usize) -> MapStore
 {
     let from = h.start as usize;
     let to = from + h.size as usize;
-    map_store::remove(s, &mut cells[from..to], pos)
+    let mut r = s;
+    r.remove(&mut cells[from..to], pos);
+    r
 }
 
 // The entry of a key removed in the map's cells, where there is room for the index.
@@ -107,7 +122,9 @@ fn remove_key_in(
 {
     let from = h.start as usize;
     let to = from + h.size as usize;
-    map_store::remove_key(s, &mut cells[from..to], traced, hash, key)
+    let mut r = s;
+    r.remove_key(&mut cells[from..to], traced, hash, key);
+    r
 }
 
 fn insertion_of(
@@ -125,13 +142,16 @@ fn insertion_of(
     ensures { InsertAsks (state heap slots.now scalars.now list.now directory.now cells.now) i key result }
 {
     let h = heap_slots::read_header(slots, i);
-    let x = heap_slots::read_map(scalars, i);
+    let x: MapScalars = heap_slots::read_part(scalars, i);
     let map = map_of(h, x);
     let t = readings::traced(x.keys);
-    let part = region(cells, h);
+    let held = Map {
+        store: map,
+        cells: region(cells, h),
+    };
     let weights = heap.weights;
-    let bytes = map_store::growth_bytes(map, part, weights.entry, t, key);
-    let size = map_store::cells_after_insert(map, part, t, key) as u64;
+    let bytes = held.growth_bytes(weights.entry, t, key);
+    let size = held.cells_after_insert(t, key) as u64;
     Insertion {
         map,
         bytes,
@@ -193,8 +213,8 @@ fn insert_at(
     }
     let account = heap.account;
     match account.charge(p.bytes) {
-        Charged::Refused => unchanged(heap, Done::Refused(Refusal::OverBudget)),
-        Charged::Next(next) => {
+        Err(_) => unchanged(heap, Done::Refused(Refusal::OverBudget)),
+        Ok(next) => {
             if (cells.len() as u64) - heap.taken < p.more {
                 return unchanged(heap, Done::Refused(Refusal::NoCells));
             }
@@ -226,9 +246,13 @@ fn removal_of(
     ensures { RemoveAsks (state heap slots.now scalars.now list.now directory.now cells.now) i result }
 {
     let h = heap_slots::read_header(slots, i);
-    let x = heap_slots::read_map(scalars, i);
+    let x: MapScalars = heap_slots::read_part(scalars, i);
     let map = map_of(h, x);
-    let size = map_store::cells_after_remove(map, region(cells, h)) as u64;
+    let held = Map {
+        store: map,
+        cells: region(cells, h),
+    };
+    let size = held.cells_after_remove() as u64;
     Removal {
         map,
         size,
@@ -311,7 +335,7 @@ pub fn set_value(
         Located::Refused(q) => Done::Refused(q),
         Located::At(i) => {
             let h = heap_slots::read_header(slots, i);
-            let x = heap_slots::read_map(scalars, i);
+            let x: MapScalars = heap_slots::read_part(scalars, i);
             set_value_in(cells, h, map_of(h, x), pos as usize, v);
             Done::Accepted
         }
@@ -336,8 +360,10 @@ pub fn note(
         Located::Refused(q) => Done::Refused(q),
         Located::At(i) => {
             let h = heap_slots::read_header(slots, i);
-            let x = heap_slots::read_map(scalars, i);
-            write_map(slots, scalars, i, map_store::note_int_key(map_of(h, x), k));
+            let x: MapScalars = heap_slots::read_part(scalars, i);
+            let mut s = map_of(h, x);
+            s.note_int_key(k);
+            write_map(slots, scalars, i, s);
             Done::Accepted
         }
     }
@@ -407,13 +433,17 @@ fn put_at(
     ensures { Performs (Calls.put w hash key value) (state heap slots.old scalars.old list.now directory.old cells.old) (done_is result.done) (state (changed_heap heap result) slots.new scalars.new list.now directory.new cells.new) }
 {
     let h = heap_slots::read_header(slots, i);
-    let x = heap_slots::read_map(scalars, i);
+    let x: MapScalars = heap_slots::read_part(scalars, i);
     let s = map_of(h, x);
-    match map_store::find(s, region(cells, h), readings::traced(x.keys), hash, key) {
-        map_store::Found::Nothing => insert_at(
+    let map = Map {
+        store: s,
+        cells: region(cells, h),
+    };
+    match map.find(readings::traced(x.keys), hash, key) {
+        None => insert_at(
             heap, slots, scalars, list, directory, cells, i, hash, key, value,
         ),
-        map_store::Found::At(pos) => {
+        Some(pos) => {
             let account = heap.account;
             let fits = zero_fits(account);
             if !fits {
@@ -534,7 +564,7 @@ fn remove_found(
     ensures { Performs (Calls.remove w hash key) (state heap slots.old scalars.old list.now directory.old cells.old) (done_is result.done) (state (changed_heap heap result) slots.new scalars.new list.now directory.new cells.new) }
 {
     let h = heap_slots::read_header(slots, i);
-    let x = heap_slots::read_map(scalars, i);
+    let x: MapScalars = heap_slots::read_part(scalars, i);
     let s = map_of(h, x);
     let t = readings::traced(x.keys);
     if s.hashed {
@@ -542,11 +572,13 @@ fn remove_found(
         write_map(slots, scalars, i, n);
         return unchanged(heap, Done::Accepted);
     }
-    match map_store::find(s, region(cells, h), t, hash, key) {
-        map_store::Found::Nothing => unchanged(heap, Done::Accepted),
-        map_store::Found::At(pos) => remove_place(
-            heap, slots, scalars, list, directory, cells, i, pos,
-        ),
+    let map = Map {
+        store: s,
+        cells: region(cells, h),
+    };
+    match map.find(t, hash, key) {
+        None => unchanged(heap, Done::Accepted),
+        Some(pos) => remove_place(heap, slots, scalars, list, directory, cells, i, pos),
     }
 }
 
@@ -618,8 +650,11 @@ pub fn new_map(
         };
     }
     let weights = heap.weights;
-    let h = heap_slots::fresh_header(kinds::MAP, 0, 0, 0, 0);
-    let x = heap_slots::scalars_of_map(MapScalars {
+    let h = Header {
+        kind: kinds::MAP,
+        ..Header::EMPTY
+    };
+    let x = Scalars::from(MapScalars {
         keys,
         values,
         hashed: 0,

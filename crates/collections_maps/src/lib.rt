@@ -15,8 +15,8 @@ ghost use Rattle.collections_maps.specs.Answers.{step_seen, lent_seen};
 
 use collections_growth::{Perhaps, map_of, region};
 use heap::{Heap, Located, Refusal, lookup};
-use heap_slots::kinds;
-use map_store::{Cursor, MapStore};
+use heap_slots::{MapScalars, kinds};
+use map_store::{Cursor, Map, MapStore};
 
 // A map's greatest noted key.
 #[derive(Clone, Copy)]
@@ -90,8 +90,12 @@ pub fn step_cursor(
         Located::Refused(q) => Moved::Refused(q),
         Located::At(i) => {
             let h = heap_slots::read_header(slots, i);
-            let x = heap_slots::read_map(scalars, i);
-            Moved::Is(map_store::step(map_of(h, x), region(cells, h), c))
+            let x: MapScalars = heap_slots::read_part(scalars, i);
+            let map = Map {
+                store: map_of(h, x),
+                cells: region(cells, h),
+            };
+            Moved::Is(map.step(c))
         }
     }
 }
@@ -119,11 +123,11 @@ fn step_lent(
             let cursor = s.cursor;
             let found = s.found;
             match found {
-                map_store::Found::Nothing => Lent {
+                None => Lent {
                     cursor,
                     answer: Perhaps::Absent,
                 },
-                map_store::Found::At(pos) => Lent {
+                Some(pos) => Lent {
                     cursor,
                     answer: Perhaps::Is(pos as u64),
                 },

@@ -13,7 +13,8 @@ ghost use Rattle.collections_maps.specs.Answers.{entry_seen, next_seen, noted_se
 use crate::{EntryRead, NextInt, Noted};
 use collections_growth::{Perhaps, map_of, region};
 use heap::{Heap, Located, Reading, Refusal, Test, lookup};
-use heap_slots::kinds;
+use heap_slots::{MapScalars, kinds};
+use map_store::Map;
 
 pub fn traced(t: u64) -> bool
     ensures { result ≡ is_traced t }
@@ -37,7 +38,7 @@ pub fn live_count(
     match lookup::locate(slots, heap.fresh, w, kinds::MAP) {
         Located::Refused(q) => Reading::Refused(q),
         Located::At(i) => {
-            let x = heap_slots::read_map(scalars, i);
+            let x: MapScalars = heap_slots::read_part(scalars, i);
             Reading::Is(x.live)
         }
     }
@@ -81,7 +82,7 @@ pub fn is_hashed(
     match lookup::locate(slots, heap.fresh, w, kinds::MAP) {
         Located::Refused(q) => Test::Refused(q),
         Located::At(i) => {
-            let x = heap_slots::read_map(scalars, i);
+            let x: MapScalars = heap_slots::read_part(scalars, i);
             Test::Is(x.hashed != 0)
         }
     }
@@ -103,7 +104,7 @@ pub fn key_type(
     match lookup::locate(slots, heap.fresh, w, kinds::MAP) {
         Located::Refused(q) => Reading::Refused(q),
         Located::At(i) => {
-            let x = heap_slots::read_map(scalars, i);
+            let x: MapScalars = heap_slots::read_part(scalars, i);
             Reading::Is(x.keys)
         }
     }
@@ -125,7 +126,7 @@ pub fn value_type(
     match lookup::locate(slots, heap.fresh, w, kinds::MAP) {
         Located::Refused(q) => Reading::Refused(q),
         Located::At(i) => {
-            let x = heap_slots::read_map(scalars, i);
+            let x: MapScalars = heap_slots::read_part(scalars, i);
             Reading::Is(x.values)
         }
     }
@@ -147,7 +148,7 @@ pub fn map_epoch(
     match lookup::locate(slots, heap.fresh, w, kinds::MAP) {
         Located::Refused(q) => Reading::Refused(q),
         Located::At(i) => {
-            let x = heap_slots::read_map(scalars, i);
+            let x: MapScalars = heap_slots::read_part(scalars, i);
             Reading::Is(x.epoch)
         }
     }
@@ -169,7 +170,7 @@ pub fn next_sequence(
     match lookup::locate(slots, heap.fresh, w, kinds::MAP) {
         Located::Refused(q) => Reading::Refused(q),
         Located::At(i) => {
-            let x = heap_slots::read_map(scalars, i);
+            let x: MapScalars = heap_slots::read_part(scalars, i);
             Reading::Is(x.next)
         }
     }
@@ -235,7 +236,7 @@ pub fn noted_key(
     match lookup::locate(slots, heap.fresh, w, kinds::MAP) {
         Located::Refused(q) => Noted::Refused(q),
         Located::At(i) => {
-            let x = heap_slots::read_map(scalars, i);
+            let x: MapScalars = heap_slots::read_part(scalars, i);
             if x.known == 0 {
                 return Noted::Nothing;
             }
@@ -261,10 +262,10 @@ pub fn next_key(
         Located::Refused(q) => NextInt::Refused(q),
         Located::At(i) => {
             let h = heap_slots::read_header(slots, i);
-            let x = heap_slots::read_map(scalars, i);
-            match map_store::next_int(map_of(h, x), region(cells, h)) {
-                map_store::NextKey::Past => NextInt::Past,
-                map_store::NextKey::Key(k) => NextInt::Is(k),
+            let x: MapScalars = heap_slots::read_part(scalars, i);
+            match map_of(h, x).next_int() {
+                None => NextInt::Past,
+                Some(k) => NextInt::Is(k),
             }
         }
     }
@@ -288,15 +289,13 @@ pub fn growth_bytes(
         Located::Refused(q) => Reading::Refused(q),
         Located::At(i) => {
             let h = heap_slots::read_header(slots, i);
-            let x = heap_slots::read_map(scalars, i);
+            let x: MapScalars = heap_slots::read_part(scalars, i);
             let weights = heap.weights;
-            Reading::Is(map_store::growth_bytes(
-                map_of(h, x),
-                region(cells, h),
-                weights.entry,
-                traced(x.keys),
-                key,
-            ))
+            let map = Map {
+                store: map_of(h, x),
+                cells: region(cells, h),
+            };
+            Reading::Is(map.growth_bytes(weights.entry, traced(x.keys), key))
         }
     }
 }
@@ -320,10 +319,14 @@ pub fn find(
         Located::Refused(q) => Perhaps::Refused(q),
         Located::At(i) => {
             let h = heap_slots::read_header(slots, i);
-            let x = heap_slots::read_map(scalars, i);
-            match map_store::find(map_of(h, x), region(cells, h), traced(x.keys), hash, key) {
-                map_store::Found::Nothing => Perhaps::Absent,
-                map_store::Found::At(pos) => Perhaps::Is(pos as u64),
+            let x: MapScalars = heap_slots::read_part(scalars, i);
+            let map = Map {
+                store: map_of(h, x),
+                cells: region(cells, h),
+            };
+            match map.find(traced(x.keys), hash, key) {
+                None => Perhaps::Absent,
+                Some(pos) => Perhaps::Is(pos as u64),
             }
         }
     }
@@ -347,10 +350,14 @@ pub fn read_entry(
         Located::Refused(q) => EntryRead::Refused(q),
         Located::At(i) => {
             let h = heap_slots::read_header(slots, i);
-            let x = heap_slots::read_map(scalars, i);
-            match map_store::entry(map_of(h, x), region(cells, h), pos as usize) {
-                map_store::Got::Outside => EntryRead::Refused(Refusal::Outside),
-                map_store::Got::Place(e) => EntryRead::Is(e),
+            let x: MapScalars = heap_slots::read_part(scalars, i);
+            let map = Map {
+                store: map_of(h, x),
+                cells: region(cells, h),
+            };
+            match map.entry(pos as usize) {
+                None => EntryRead::Refused(Refusal::Outside),
+                Some(e) => EntryRead::Is(e),
             }
         }
     }

@@ -1,49 +1,45 @@
 -- The parts of a collection put together.
 use Prim.Native.Nat.{ℕ, ◌+◌, ◌*◌, ◌%◌, ◌≤◌, ◌<◌}
-use mathlib.Core.Path.{◌≡◌, sym, ap, ◌∙◌}
+use mathlib.Core.Path.{◌≡◌, ap, ◌∙◌}
 use mathlib.Core.List.{List}
 use native.Mathlib.Omega.{arith}
-use borrow.Author.Tests.{lt-ltb, le-ltb}
+use borrow.Author.Tests.{le-ltb}
 use lib.ListN.{length, get_or, take}
-use lib.Seq.{length-take-le}
 use Rattle.heap_slots.specs.Limits.{SLOT_WORDS, SLOTS_MAX, SPAN}
 use Rattle.heap_slots.specs.Header.{scalars_at}
 use Rattle.heap_slots.specs.declared.Scalars.{Scalars}
+use Rattle.std.proofs.Common.{Result, Ok, Err}
 use Rattle.layout.specs.Layout.{Layout}
+use Rattle.heap.specs.declared.Refusal.{Refusal}
 use Rattle.model.specs.declared.Weights.{Weights}
 use Rattle.collector_marking.specs.Children.{word_at}
 use Rattle.collector_marking.specs.Marks.{Unmarked}
 use Rattle.collector_finalizing.specs.declared.Kept.{Kept}
-use Rattle.collector_finalizing.specs.declared.Kept.TheVariants as K
-use Rattle.collector_finalizing.specs.Dropped.{dropped_words, finalized_in, Blanks, TooFew, AllKept, Keeps}
+use Rattle.collector_finalizing.specs.Dropped.{dropped_words, finalized_in, Blanks, AllKept, Keeps}
 use Rattle.collector_finalizing.proofs.OrderLaws.{occ_at}
-use Rattle.collector_finalizing.proofs.Listing.{filled-part, filled-length}
+use Rattle.collector_finalizing.proofs.Listing.{filled-part}
 use Rattle.collector_finalizing.proofs.Keeping.{at_rest}
 use Rattle.collector_finalizing.proofs.Finalized.{finalized-at, finalized-length, names, dropped_member}
 use Rattle.collector.specs.declared.Tally.{Tally}
 use Rattle.collector.specs.Sweep.{Sweepable, Swept}
-use Rattle.collector.specs.Ending.{Buffers, buffers, Collects, Ends, Refuses}
-use Rattle.collector.specs.declared.Ending.TheVariants as E
+use Rattle.collector.specs.Ending.{Buffers, buffers, Collects, Ends}
+use Rattle.collector.specs.declared.Ending.{Ending}
 use Rattle.collector.proofs.Contents.{flag-frames}
 
-module _ (s : List ℕ) (n : ℕ) (f kept m o p m' o' p' : List ℕ) {r : Kept} (k : Keeps r s n f kept m o p m' o' p') where
-  pub kept-done : {a b : ℕ} → r ≡ K.Done a b → AllKept s n f kept o p m' o' p' a b
+module _ {s : List ℕ} {n : ℕ} {f kept m o p m' o' p' : List ℕ} {r : Result Kept Refusal} (k : Keeps r s n f kept m o p m' o' p') where
+  pub kept-done : {y : Kept} → r ≡ Ok y → AllKept s n f kept o p m' o' p' y.listed y.marked
   kept-done e = rw e at k.leaves
 
-  pub kept-short : (x l : List ℕ) → r ≡ K.Short → Refuses f (buffers s x l m o p) (buffers s x l m' o' p')
-  kept-short x l e =
-      let q : TooFew f m o p m' o' p' = rw e at k.leaves in
-      record { short = q.short; same = λ j. buffers s x l (q.marks j) (q.order j) (q.places j) }
+  -- the lent list is too short
+  pub ends_short : {q : Refusal} → r ≡ Err q → (w : Weights) (free : ℕ) (x l : List ℕ) → Ends (Err q) n w free f kept (buffers s x l m o p) (buffers s x l m' o' p')
+  ends_short e w free x l =
+      let z = rw e at k in
+      let few = z.leaves in
+      record { answer = z.answer; leaves = record { short = few.short; same = rw (few.marks, few.order, few.places) } }
 
 module _ {s : List ℕ} {n : ℕ} {f kept o p m' o' p' : List ℕ} {a b : ℕ} (q : AllKept s n f kept o p m' o' p' a b) where
   pub listed-part : take a p' ≡ f
   listed-part = filled-part {p = p} record { is = q.places } q.count
-
-  pub listed-fits : a ≤ length p'
-  listed-fits = omega (arith, q.count, q.fits, filled-length {ws = f} {p = p} record { is = q.places } q.fits)
-
-  pub listed-length : a ≡ length (take a p')
-  listed-length = sym (length-take-le a p' listed-fits)
 
 -- each listed word names one of the slots
 pub listed-slots : (l : Layout) (s x c : List ℕ) (n : ℕ) (roots : List ℕ) {kept o p m' o' p' : List ℕ} {a b : ℕ} → AllKept s n (dropped_words l s x c n roots) kept o p m' o' p' a b → n ≤ SLOTS_MAX → n * SLOT_WORDS ≤ length x →
@@ -92,8 +88,5 @@ collects {x = x} {f = f} {m₁ = m₁} b q e sw u =
 -- ---- the two answers
 
 module _ {n : ℕ} {w : Weights} {free : ℕ} {f kept : List ℕ} {b a : Buffers} where
-  pub ends-short : Refuses f b a → Ends E.Short n w free f kept b a
-  ends-short q = record { answer = rw (lt-ltb (length b.places) (length f) q.short); leaves = q }
-
-  pub ends-swept : {t : Tally} {listed : ℕ} → Collects n w free f kept b a t listed → Ends (E.Swept t listed) n w free f kept b a
+  pub ends-swept : {y : Ending} → Collects n w free f kept b a y.tally y.listed → Ends (Ok y) n w free f kept b a
   ends-swept q = record { answer = rw (le-ltb (length b.places) (length f) q.fits, q.count); leaves = q }

@@ -1,11 +1,12 @@
 -- A collection does what the model's step says.
 use Prim.Native.Nat.{ℕ, ◌+◌, ◌≤◌, ◌<◌}
-use mathlib.Core.Path.{◌≡◌, refl, sym, ap, ◌∙◌}
-use mathlib.Core.List.{List, ◌++◌}
+use mathlib.Core.Path.{◌≡◌, refl, ap, ◌∙◌}
+use mathlib.Core.List.{List}
 use native.Mathlib.Omega.{arith}
-use lib.ListN.{length, take, drop, replicate, length-replicate, get_or-replicate, take-append-drop}
-use lib.Seq.{ext_get_or, get_or-take, length-take-le}
-use borrow.Author.Tests.{le-leb, lt-leb}
+use lib.ListN.{length, take}
+use lib.Seq.{length-take-le}
+use borrow.Author.Tests.{le-leb, lt-leb, lt-ltb}
+use Rattle.std.proofs.Common.{Result, Ok, Err}
 use Rattle.heap_slots.specs.Limits.{CELLS_MAX, SLOTS_MAX}
 use Rattle.heap_slots.specs.Header.{header_at, scalars_at}
 use Rattle.heap_cells.specs.Regions.{raw_at}
@@ -14,7 +15,7 @@ use Rattle.account.specs.declared.Account.{Account}
 use Rattle.layout.specs.Layout.{Layout}
 use Rattle.model.specs.Calls as Calls
 use Rattle.model.specs.Calls.{effect}
-use Rattle.model.specs.Replies.{list, written}
+use Rattle.model.specs.Replies.{written}
 use Rattle.model.specs.Model.{view_of}
 use Rattle.model.specs.Kept.{finalizable, kept, swept}
 use Rattle.model.specs.Refusals.{added, budget, first, slotless, unless}
@@ -23,6 +24,7 @@ use Rattle.model.specs.Step.{refusal_of}
 use Rattle.history.proofs.Lift.{seen, step_sweeps}
 use Rattle.history.proofs.Judging.{no-cells-added, says_none}
 use Rattle.heap.specs.Answers.{number_of}
+use Rattle.heap.specs.declared.Refusal.{Refusal}
 use Rattle.heap.specs.declared.Refusal.TheVariants as No
 use Rattle.heap.specs.declared.Heap.{Heap}
 use Rattle.heap.specs.Record.{with_swept}
@@ -31,8 +33,7 @@ use Rattle.heap.specs.Good.{Good, Rested, SlotGood}
 use Rattle.heap.specs.Promise.{Does}
 use Rattle.heap.proofs.GoodLaws.{holds_as}
 use Rattle.heap.proofs.DoesLaws.{does-own}
-use Rattle.collector_marking.specs.Marks.{Sound}
-use Rattle.collector_finalizing.specs.Dropped.{dropped_words, marks_kept, finalized_in, Blanks}
+use Rattle.collector_finalizing.specs.Dropped.{ListAnswer, dropped_words, marks_kept, finalized_in}
 use Rattle.collector_finalizing.proofs.Found.{dropped-finalizable}
 use Rattle.collector.specs.declared.Tally.{Tally}
 use Rattle.collector.specs.declared.Collection.TheVariants as C
@@ -40,7 +41,6 @@ use Rattle.collector.specs.Answer.{collection_is}
 use Rattle.collector.specs.Sweep.{Weighable, Swept, Sweepable, heap_after, state_after}
 use Rattle.model.specs.declared.Weights.{Weights}
 use Rattle.collector.specs.declared.Ending.{Ending}
-use Rattle.collector.specs.declared.Ending.TheVariants as E
 use Rattle.collector.specs.Ending.{Buffers, buffers, Collects, Ends, Refuses}
 use Rattle.collector.proofs.After.{freed_count, model-after, heap-good}
 
@@ -87,16 +87,6 @@ module _ {t : State} (g : Good t) where
   few : t.heap.fresh ≤ SLOTS_MAX
   few = omega (arith, g.fresh, g.slots_max)
 
-  pub good-sound : Sound t.slots t.scalars t.cells t.heap.fresh
-  good-sound = record {
-    slots_max = few;
-    slots_fit = omega (arith, g.fresh, g.slots_fit);
-    scalars_fit = omega (arith, g.fresh, g.scalars_fit);
-    cells_max = g.laid.cells_max;
-    inside = g.laid.inside;
-    each = g.each;
-  }
-
   weighable : (j : ℕ) → j < t.heap.fresh → Weighable (header_at t.slots j) (scalars_at t.scalars j).f
   unfolding raw_at
   weighable j low =
@@ -136,14 +126,6 @@ module _ {t : State} (g : Good t) where
     pub rested-length : length (take t.heap.fresh marks) ≡ t.heap.fresh
     rested-length = length-take-le t.heap.fresh marks rested-fits
 
-    pub rested_blanks : Blanks t.heap.fresh (take t.heap.fresh marks) order
-    rested_blanks = record {
-      marks = ext_get_or 0 (take t.heap.fresh marks) (replicate t.heap.fresh 0) (rested-length ∙ sym (length-replicate t.heap.fresh 0))
-          (λ i l. (let l' : i < t.heap.fresh = omega (arith, rested-length) in get_or-take t.heap.fresh marks i 0 l' ∙ r.marks_zero i (omega (arith, g.fresh)) ∙ sym (get_or-replicate t.heap.fresh i 0 0 l')));
-      room = omega (arith, r.order_fit, g.fresh);
-      order = λ i l. r.order_zero i (omega (arith, g.fresh));
-    }
-
 -- the record, as the code makes it
 pub heap_is : (h : Heap) (y : Tally) {a : Account} {c f : ℕ} → a ≡ after_sweep h.account y.weight → c ≡ saturated (h.collections + 1) → f ≡ saturated (h.freed + y.freed) →
     with_swept h a y.free y.taken y.present y.coroutines c f ≡ heap_after h y
@@ -151,26 +133,41 @@ heap_is h y p q r = λ j. with_swept h (p j) y.free y.taken y.present y.coroutin
 
 -- ---- from the buffers to the promise
 
-module _ (n : ℕ) (w : Weights) (free : ℕ) (f kept : List ℕ) (b a : Buffers) {r : Ending} (k : Ends r n w free f kept b a) where
-  pub ended-short : r ≡ E.Short → Refuses f b a
+eight : (q : Refusal) → number_of q ≡ 8 → q ≡ No.TooShort
+unfolding number_of
+eight No.NilTarget e = absurd (omega (arith, e))
+eight No.OtherKind e = absurd (omega (arith, e))
+eight No.Outside e = absurd (omega (arith, e))
+eight No.BadType e = absurd (omega (arith, e))
+eight No.OverBudget e = absurd (omega (arith, e))
+eight No.NoSlot e = absurd (omega (arith, e))
+eight No.NoCells e = absurd (omega (arith, e))
+eight No.TooShort e = refl
+eight No.Spent e = absurd (omega (arith, e))
+eight No.BadOpening e = absurd (omega (arith, e))
+eight No.DeadReference e = absurd (omega (arith, e))
+
+module _ {n : ℕ} {w : Weights} {free : ℕ} {f kept : List ℕ} {b a : Buffers} {r : Result Ending Refusal} (k : Ends r n w free f kept b a) where
+  pub ended-short : {q : Refusal} → r ≡ Err q → Refuses f b a
   ended-short e = rw e at k.leaves
 
-  pub ended-swept : {t : Tally} {j : ℕ} → r ≡ E.Swept t j → Collects n w free f kept b a t j
+  pub refused_so : {q : Refusal} → r ≡ Err q → q ≡ No.TooShort
+  refused_so {q} e = eight q (ap (λ (y : ListAnswer). y.refusal) (rw e at k.answer) ∙ rw (lt-ltb (length b.places) (length f) (ended-short e).short))
+
+  pub ended-swept : {y : Ending} → r ≡ Ok y → Collects n w free f kept b a y.tally y.listed
   ended-swept e = rw e at k.leaves
 
 module _ (l : Layout) (h : Heap) (s x li d c : List ℕ) (g : Good (state h s x li d c)) (roots p m o : List ℕ) {s' x' li' m' o' p' : List ℕ} where
   pub promise_short : Refuses (dropped_words l s x c h.fresh roots) (buffers s x li (take h.fresh m) o p) (buffers s' x' li' m' o' p') →
-      Does l (Calls.collect roots p) (state h s x li d c) (collection_is (C.Refused No.TooShort) p') (state h s' x' li' d c) × ((m' ++ drop h.fresh m ≡ m) × (o' ≡ o))
+      Does l (Calls.collect roots p) (state h s x li d c) (collection_is (C.Refused No.TooShort) p') (state h s' x' li' d c)
   promise_short q =
       let es : s' ≡ s = ap (λ (y : Buffers). y.slots) q.same in
       let ex : x' ≡ x = ap (λ (y : Buffers). y.scalars) q.same in
       let el : li' ≡ li = ap (λ (y : Buffers). y.list) q.same in
-      let em : m' ≡ take h.fresh m = ap (λ (y : Buffers). y.marks) q.same in
-      let eo : o' ≡ o = ap (λ (y : Buffers). y.order) q.same in
       let ep : p' ≡ p = ap (λ (y : Buffers). y.places) q.same in
-      (rw (es, ex, el, ep) (does-short l (state h s x li d c) g roots p q.short), (ap (λ (z : List ℕ). z ++ drop h.fresh m) em ∙ take-append-drop h.fresh m, eo))
+      rw (es, ex, el, ep) (does-short l (state h s x li d c) g roots p q.short)
 
   pub promise_swept : {y : Tally} {k : ℕ} {h' : Heap} → Collects h.fresh h.weights h.free (dropped_words l s x c h.fresh roots) (marks_kept l s x c h.fresh roots) (buffers s x li (take h.fresh m) o p) (buffers s' x' li' m' o' p') y k → h' ≡ heap_after h y →
-      Does l (Calls.collect roots p) (state h s x li d c) (collection_is (C.Done y.freed k) p') (state h' s' x' li' d c) × ((m' ++ drop h.fresh m ≡ m) × (o' ≡ o))
+      Does l (Calls.collect roots p) (state h s x li d c) (collection_is (C.Done y.freed k) p') (state h' s' x' li' d c)
   promise_swept q e =
-      (rw e (does-collected l (state h s x li d c) g roots p q.count q.fits q.places q.scalars q.swept), (ap (λ (z : List ℕ). z ++ drop h.fresh m) q.marks ∙ take-append-drop h.fresh m, q.order))
+      rw e (does-collected l (state h s x li d c) g roots p q.count q.fits q.places q.scalars q.swept)

@@ -1,11 +1,12 @@
 -- What a collection leaves in the buffers.
-use Rattle.std.specs.Prelude.{ℕ, ◌≤◌, ◌<◌, ◌≡◌, List, length}
+use Rattle.std.specs.Prelude.{ℕ, ◌≤◌, ◌<◌, ◌≡◌, List, length, Result, Ok, Err}
 use Rattle.model.specs.Replies.{written}
 use Rattle.model.specs.declared.Weights.{Weights}
+use Rattle.heap.specs.Answers.{number_of}
+use Rattle.heap.specs.declared.Refusal.{Refusal}
 use Rattle.collector_finalizing.specs.Dropped.{ListAnswer, finalized_in, list_answer}
 use Rattle.collector.specs.declared.Tally.{Tally}
 use Rattle.collector.specs.declared.Ending.{Ending}
-use Rattle.collector.specs.declared.Ending.TheVariants as E
 use Rattle.collector.specs.Sweep.{Swept}
 
 -- slots, scalars, free list, marks, order, places
@@ -36,14 +37,14 @@ pub record Collects (n : ℕ) (w : Weights) (free : ℕ) (f kept : List ℕ) (b 
   pub order : a.order ≡ b.order
 
 -- document 01's number, and how many coroutines are listed
-abbrev pub ending_is : Ending → ListAnswer
-ending_is E.Short = record { refusal = 8; listed = 0 }
-ending_is (E.Swept t listed) = record { refusal = 0; listed = listed }
+abbrev pub ending_is : Result Ending Refusal → ListAnswer
+ending_is (Ok e) = record { refusal = 0; listed = e.listed }
+ending_is (Err q) = record { refusal = number_of q; listed = 0 }
 
-abbrev pub EndedBy : Ending → ℕ → Weights → ℕ → List ℕ → List ℕ → Buffers → Buffers → Type 0
-EndedBy E.Short n w free f kept b a = Refuses f b a
-EndedBy (E.Swept t listed) n w free f kept b a = Collects n w free f kept b a t listed
+abbrev pub EndedBy : Result Ending Refusal → ℕ → Weights → ℕ → List ℕ → List ℕ → Buffers → Buffers → Type 0
+EndedBy (Ok e) n w free f kept b a = Collects n w free f kept b a e.tally e.listed
+EndedBy (Err q) n w free f kept b a = Refuses f b a
 
-pub record Ends (r : Ending) (n : ℕ) (w : Weights) (free : ℕ) (f kept : List ℕ) (b a : Buffers) : Type 0 where
+pub record Ends (r : Result Ending Refusal) (n : ℕ) (w : Weights) (free : ℕ) (f kept : List ℕ) (b a : Buffers) : Type 0 where
   pub answer : ending_is r ≡ list_answer f b.places
   pub leaves : EndedBy r n w free f kept b a

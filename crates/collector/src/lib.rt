@@ -4,7 +4,7 @@
 ghost use Rattle.std.specs.Prelude.{◌≡◌, ◌+◌, ◌*◌, ◌≤◌, ◌<◌, length};
 ghost use Rattle.heap_slots.specs.Header.{header_at, scalars_at};
 ghost use Rattle.heap_slots.specs.Limits.{GENERATIONS, HasSlot};
-ghost use Rattle.layout.specs.Sections.{Tabled, layout_of};
+ghost use Rattle.layout.specs.Sections.{layout_of};
 ghost use Rattle.model.specs.Calls as Calls;
 ghost use Rattle.heap.specs.State.{state};
 ghost use Rattle.heap.specs.Good.{Good, Rested, WeightsGood, coroutines_in};
@@ -15,11 +15,10 @@ ghost use Rattle.collector.specs.Answer.{collection_is};
 ghost use Rattle.collector.specs.Sweep.{empty_header, frames_at, weight_at, Weighable, Looked, Lookable, Swept, Sweepable};
 ghost use Rattle.collector.specs.Ending.{buffers, Ends};
 
-use account::Account;
-use collector_finalizing::Kept;
 use heap::{Heap, Refusal};
 use heap_slots::limits::{GENERATIONS, HALF, LAST_GENERATION};
-use heap_slots::{Header, kinds};
+use heap_slots::{CoroutineScalars, Header, kinds};
+use layout::ReadLayout;
 use model::Weights;
 
 // Objects freed and coroutines listed, or the refusal.
@@ -31,7 +30,7 @@ pub enum Collection {
 
 // The free list's length, the slots freed, and of what is kept the weight, the cells, the number and
 // the number of coroutines.
-#[derive(Clone, Copy)]
+#[derive(Clone, Copy, Debug, PartialEq, Eq)]
 pub struct Tally {
     pub free: u64,
     pub freed: u64,
@@ -42,6 +41,7 @@ pub struct Tally {
 }
 
 // What the object in slot i weighs.
+#[tactic(auto, using(std::proofs::lemmas::Bool::Decides::nat_tests), unfolding(crate::specs::Sweep::bytes_at))]
 fn weigh(h: Header, scalars: &[u64], i: usize, w: Weights) -> u64
     requires has_slot { HasSlot scalars.now i }
     requires weighable { Weighable h (frames_at scalars.now i) }
@@ -57,7 +57,7 @@ fn weigh(h: Header, scalars: &[u64], i: usize, w: Weights) -> u64
         kinds::FUNCTION => w.slot + 8 * h.len,
         kinds::ITERATOR => w.slot + w.iterator,
         kinds::COROUTINE => {
-            let x = heap_slots::read_coroutine(scalars, i);
+            let x: CoroutineScalars = heap_slots::read_part(scalars, i);
             w.slot + (w.coroutine + 8 * h.len + w.frame * x.frames)
         },
         _ => w.slot,
@@ -69,7 +69,7 @@ fn empty(h: Header, generation: u64) -> Header
     requires { generation ≤ GENERATIONS }
     ensures { result ≡ empty_header h generation }
 {
-    heap_slots::emptied(h, HALF + generation)
+    h.emptied(HALF + generation)
 }
 
 // Slot i: a marked object is weighed, another is freed. Its generation grows by 1 and it is listed
@@ -94,24 +94,19 @@ fn sweep_slot(
         let weight = weigh(h, scalars, i, w);
         let coroutine = heap::placing::coroutine_of(h.kind);
         return Tally {
-            free: t.free,
-            freed: t.freed,
             weight: t.weight + weight,
             taken: t.taken + h.size,
             present: t.present + 1,
             coroutines: t.coroutines + coroutine,
+            ..t
         };
     }
     let generation = h.half % GENERATIONS;
     if generation == LAST_GENERATION {
         heap_slots::write_header(slots, i, empty(h, generation));
         return Tally {
-            free: t.free,
             freed: t.freed + 1,
-            weight: t.weight,
-            taken: t.taken,
-            present: t.present,
-            coroutines: t.coroutines,
+            ..t
         };
     }
     heap_slots::write_header(slots, i, empty(h, generation + 1));
@@ -120,10 +115,7 @@ fn sweep_slot(
     Tally {
         free: t.free + 1,
         freed: t.freed + 1,
-        weight: t.weight,
-        taken: t.taken,
-        present: t.present,
-        coroutines: t.coroutines,
+        ..t
     }
 }
 
@@ -148,19 +140,17 @@ fn sweep(
         present: 0,
         coroutines: 0,
     };
-    let mut i: usize = 0;
-    while i < fresh {
+    for i in 0..fresh {
         t = sweep_slot(i, slots, scalars, list, marks, w, t);
-        i += 1;
     }
     t
 }
 
-// Refused with 8, or the counts and the number of coroutines listed.
-#[derive(Clone, Copy)]
-pub enum Ending {
-    Short,
-    Swept(Tally, usize),
+// What the sweep counted, and the number of coroutines listed.
+#[derive(Clone, Copy, Debug, PartialEq, Eq)]
+pub struct Ending {
+    pub tally: Tally,
+    pub listed: usize,
 }
 
 // Marks what is kept, lists and finalizes F, frees the others, and undoes the marks.
@@ -173,34 +163,30 @@ fn collect_slots(
     scalars: &mut [u64],
     list: &mut [u64],
     cells: &[u64],
-    layout: &[u8],
-    table: &[u64],
+    layout: ReadLayout<'_>,
     marks: &mut [u8],
     order: &mut [u32],
     roots: &[u64],
     places: &mut [u64],
-) -> Ending
+) -> Result<Ending, Refusal>
     requires sound { Sound slots.old scalars.old cells.now fresh }
-    requires tabled { Tabled layout.now table.now }
     requires blanks { Blanks fresh marks.old order.old }
     requires sweepable { Sweepable fresh w slots.old scalars.old list.old marks.old free }
     requires coroutines_value { coroutines ≡ coroutines_in slots.old fresh }
     ensures { Ends result fresh w free
-        (dropped_words (layout_of layout.now) slots.old scalars.old cells.now fresh roots.now)
-        (marks_kept (layout_of layout.now) slots.old scalars.old cells.now fresh roots.now)
+        (dropped_words (layout_of layout.entry.bytes.now) slots.old scalars.old cells.now fresh roots.now)
+        (marks_kept (layout_of layout.entry.bytes.now) slots.old scalars.old cells.now fresh roots.now)
         (buffers slots.old scalars.old list.old marks.old order.old places.old)
         (buffers slots.new scalars.new list.new marks.new order.new places.new) }
 {
     let kept = collector_finalizing::mark_kept(
-        roots, slots, scalars, cells, layout, table, fresh, coroutines, marks, order, places,
-    );
-    let Kept::Done(listed, marked) = kept else {
-        return Ending::Short;
-    };
+        roots, slots, scalars, cells, layout, fresh, coroutines, marks, order, places,
+    )?;
+    let listed = kept.listed;
     collector_finalizing::finalize(&places[..listed], scalars);
-    let t = sweep(fresh, free, slots, scalars, list, marks, w);
-    collector_marking::unmark(marks, order, marked);
-    Ending::Swept(t, listed)
+    let tally = sweep(fresh, free, slots, scalars, list, marks, w);
+    collector_marking::unmark(marks, order, kept.marked);
+    Ok(Ending { tally, listed })
 }
 
 #[derive(Clone, Copy)]
@@ -219,17 +205,15 @@ pub fn collect(
     list: &mut [u64],
     directory: &[u64],
     cells: &[u64],
-    layout: &[u8],
-    table: &[u64],
+    layout: ReadLayout<'_>,
     marks: &mut [u8],
     order: &mut [u32],
     roots: &[u64],
     places: &mut [u64],
 ) -> Collected
     requires good { Good (state heap slots.old scalars.old list.old directory.now cells.now) }
-    requires tabled { Tabled layout.now table.now }
     requires rested { Rested heap.size marks.old order.old }
-    ensures does { Does (layout_of layout.now) (Calls.collect roots.now places.old)
+    ensures does { Does (layout_of layout.entry.bytes.now) (Calls.collect roots.now places.old)
         (state heap slots.old scalars.old list.old directory.now cells.now)
         (collection_is result.answer places.new)
         (state result.heap slots.new scalars.new list.new directory.now cells.now) }
@@ -237,43 +221,42 @@ pub fn collect(
     ensures order_unchanged { order.new ≡ order.old }
 {
     let fresh = heap.fresh as usize;
-    let weights = heap.weights;
-    let ending = collect_slots(
+    let ending = match collect_slots(
         fresh,
         heap.free,
         heap.coroutines,
-        weights,
+        heap.weights,
         slots,
         scalars,
         list,
         cells,
         layout,
-        table,
         &mut marks[..fresh],
         order,
         roots,
         places,
-    );
-    let Ending::Swept(t, listed) = ending else {
-        return Collected {
-            heap,
-            answer: Collection::Refused(Refusal::TooShort),
-        };
+    ) {
+        Ok(ending) => ending,
+        Err(refusal) => {
+            return Collected {
+                heap,
+                answer: Collection::Refused(refusal),
+            };
+        },
     };
-    let account = heap.account;
-    let next = account.after_sweep(t.weight);
-    let collections = account::saturating_add(heap.collections, 1);
-    let freed = account::saturating_add(heap.freed, t.freed);
-    let mut swept = heap;
-    swept.account = next;
-    swept.free = t.free;
-    swept.taken = t.taken;
-    swept.present = t.present;
-    swept.coroutines = t.coroutines;
-    swept.collections = collections;
-    swept.freed = freed;
+    let tally = ending.tally;
+    let swept = Heap {
+        account: heap.account.after_sweep(tally.weight),
+        free: tally.free,
+        taken: tally.taken,
+        present: tally.present,
+        coroutines: tally.coroutines,
+        collections: heap.collections.saturating_add(1),
+        freed: heap.freed.saturating_add(tally.freed),
+        ..heap
+    };
     Collected {
         heap: swept,
-        answer: Collection::Done(t.freed, listed as u64),
+        answer: Collection::Done(tally.freed, ending.listed as u64),
     }
 }

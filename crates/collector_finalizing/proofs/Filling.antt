@@ -1,19 +1,16 @@
 -- The dropped coroutines counted and written.
 use mathlib.Core.Path.{◌≡◌, refl, sym, ap, ◌∙◌}
-use mathlib.Core.Bool.{Bool, true, false, cond, ◌||◌}
+use mathlib.Core.Bool.{Bool, true, false, cond}
 use mathlib.Core.List.{List, [], ◌∷◌, ◌++◌, append-nil, append_assoc}
 use Prim.Native.Nat.{ℕ, zero, suc, ◌+◌, ◌-◌, ◌*◌, ◌%◌, ◌≤◌, ◌<◌}
 use native.Mathlib.Omega.{arith}
 use native.Mathlib.Numerals.{add-one}
-use lib.Dec.{eqb}
 use lib.ListN.{length, get_or, set, take, drop, length-set, take-append-drop}
 use lib.Seq.{drop-set-lt, take-suc-set, drop-cons}
 use borrow.Author.Tests.{eq-eqb, ne_eqb}
 use Rattle.heap_slots.specs.Limits.{SLOT_WORDS, SPAN}
-use Rattle.heap_slots.specs.Header.{header_at, scalars_at}
+use Rattle.heap_slots.specs.Header.{header_at}
 use Rattle.heap_slots.specs.declared.Header.{Header}
-use Rattle.heap_slots.specs.Scalars.{coroutine_part}
-use Rattle.heap_slots.specs.declared.CoroutineScalars.{CoroutineScalars}
 use Rattle.heap_slots.proofs.Cases.{by_cases, same_or_not}
 use Rattle.heap_cells.specs.Regions.{sum_to}
 use Rattle.model.specs.Replies.{written}
@@ -33,22 +30,6 @@ module _ (s x m : List ℕ) (i : ℕ) where
     pub dropped-other : (h.kind ≡ 11 → ⊥) → false ≡ is_dropped s x m i
     unfolding is_dropped waits
     dropped-other k = rw (eq-eqb (get_or m i 0) 0 z, ← q, ne_eqb h.kind 11 k)
-
-    module _ (k : h.kind ≡ 11) where
-      pub dropped_early : h.mode < 2 → false ≡ is_dropped s x m i
-      unfolding is_dropped waits
-      dropped_early l = rw (eq-eqb (get_or m i 0) 0 z, ← q, eq-eqb h.kind 11 k, ne_eqb h.mode 2 (omega arith), ne_eqb h.mode 3 (omega arith))
-
-      pub dropped_late : 3 < h.mode → false ≡ is_dropped s x m i
-      unfolding is_dropped waits
-      dropped_late l = rw (eq-eqb (get_or m i 0) 0 z, ← q, eq-eqb h.kind 11 k, ne_eqb h.mode 2 (omega arith), ne_eqb h.mode 3 (omega arith))
-
-      pub dropped_so : {y : CoroutineScalars} → y ≡ coroutine_part (scalars_at x i) → 2 ≤ h.mode → h.mode ≤ 3 → eqb y.finalized 0 ≡ is_dropped s x m i
-      unfolding is_dropped waits
-      dropped_so {y} e a b = rw (eq-eqb (get_or m i 0) 0 z, ← q, e, eq-eqb h.kind 11 k, either)
-        where
-          either : (eqb h.mode 2 || eqb h.mode 3) ≡ true
-          either = elim (native.Mathlib.Decide.ℕ_discrete h.mode 2) [ yes w ↦ rw (eq-eqb h.mode 2 w) | no w ↦ rw (ne_eqb h.mode 2 w, eq-eqb h.mode 3 (omega arith)) ]
 
 -- ---- all slots
 

@@ -16,7 +16,9 @@ use Rattle.collector_marking.proofs.ReachLaws.{ones_le}
 use Rattle.collector_marking.proofs.Doing.{drop-onward}
 use Rattle.collector_finalizing.specs.Order.{seq_of, sort_words}
 use Rattle.collector_finalizing.specs.Dropped.{is_dropped, dropped_slots, marks_reached, dropped_words, marks_kept, Listable, Fills, Blank, Blanks, TooFew, AllKept, Keeps}
-use Rattle.collector_finalizing.specs.declared.Kept.TheVariants as K
+use Rattle.heap.specs.Answers.{number_of}
+use Rattle.heap.specs.declared.Refusal.TheVariants as No
+use Rattle.std.proofs.Common.{Ok, Err}
 use Rattle.collector_finalizing.proofs.OrderLaws.{sort_length}
 use Rattle.collector_finalizing.proofs.Filling.{sieve-length}
 use Rattle.collector_finalizing.proofs.Listing.{filled-part}
@@ -121,8 +123,9 @@ module _ (l : Layout) (s x c : List ℕ) {n : ℕ} {roots m o m₁ o₁ : List �
 -- ---- the two answers
 
 module _ {s : List ℕ} {n : ℕ} {f kept m o p m' o' p' : List ℕ} where
-  pub keeps-short : TooFew f m o p m' o' p' → Keeps K.Short s n f kept m o p m' o' p'
+  pub keeps-short : TooFew f m o p m' o' p' → Keeps (Err No.TooShort) s n f kept m o p m' o' p'
+  unfolding number_of
   keeps-short q = record { answer = rw (lt-ltb (length p) (length f) q.short); leaves = q }
 
-  pub keeps-done : {listed marked : ℕ} → AllKept s n f kept o p m' o' p' listed marked → Keeps (K.Done listed marked) s n f kept m o p m' o' p'
+  pub keeps-done : {listed marked : ℕ} → AllKept s n f kept o p m' o' p' listed marked → Keeps (Ok (record { listed = listed; marked = marked })) s n f kept m o p m' o' p'
   keeps-done q = record { answer = rw (le-ltb (length p) (length f) q.fits, q.count); leaves = q }

@@ -1,5 +1,5 @@
 -- F, as the slots and the marks have it (document 01, "Kept set": "the yielded or awaiting, unfinalized coroutines outside R").
-use Rattle.std.specs.Prelude.{◌≡◌, Bool, cond, ◌&&◌, ◌||◌, List, [], ◌∷◌, ℕ, zero, suc, ◌*◌, ◌%◌, ◌≤◌, ◌<◌, eqb, ltb, length, get_or, set, take, drop, replicate}
+use Rattle.std.specs.Prelude.{◌≡◌, Bool, cond, ◌&&◌, ◌||◌, List, [], ◌∷◌, ℕ, zero, suc, ◌*◌, ◌%◌, ◌≤◌, ◌<◌, eqb, ltb, length, get_or, set, take, drop, replicate, Result, Ok, Err}
 use Rattle.heap_slots.specs.Header.{header_at}
 use Rattle.heap_slots.specs.Limits.{HALF_END, SLOT_WORDS, SLOTS_MAX, SPAN}
 use Rattle.heap_slots.specs.Kinds.{COROUTINE}
@@ -9,8 +9,9 @@ use Rattle.model.specs.Replies.{written}
 use Rattle.collector_marking.specs.Reach.{phase}
 use Rattle.collector_marking.specs.Children.{hit, children, word_at}
 use Rattle.collector_marking.specs.Marks.{Scanned}
+use Rattle.heap.specs.Answers.{number_of}
+use Rattle.heap.specs.declared.Refusal.{Refusal}
 use Rattle.collector_finalizing.specs.declared.Kept.{Kept}
-use Rattle.collector_finalizing.specs.declared.Kept.TheVariants as K
 use Rattle.collector_finalizing.specs.Order.{seq_of, sort_words}
 
 -- slot i holds a coroutine of state 2 or 3 that is not finalized
@@ -90,18 +91,18 @@ pub record ListAnswer : Type 0 where
   pub refusal : ℕ
   pub listed : ℕ
 
-abbrev pub kept_is : Kept → ListAnswer
-kept_is K.Short = record { refusal = 8; listed = 0 }
-kept_is (K.Done listed marked) = record { refusal = 0; listed = listed }
+abbrev pub kept_is : Result Kept Refusal → ListAnswer
+kept_is (Ok k) = record { refusal = 0; listed = k.listed }
+kept_is (Err q) = record { refusal = number_of q; listed = 0 }
 
 -- "8 lent list shorter than F": f is F, p the lent list
 abbrev pub list_answer : List ℕ → List ℕ → ListAnswer
 list_answer f p = record { refusal = cond (ltb (length p) (length f)) 8 0; listed = cond (ltb (length p) (length f)) 0 (length f) }
 
-abbrev pub KeptBy : Kept → List ℕ → ℕ → List ℕ → List ℕ → List ℕ → List ℕ → List ℕ → List ℕ → List ℕ → List ℕ → Type 0
-KeptBy K.Short s n f kept m o p m' o' p' = TooFew f m o p m' o' p'
-KeptBy (K.Done listed marked) s n f kept m o p m' o' p' = AllKept s n f kept o p m' o' p' listed marked
+abbrev pub KeptBy : Result Kept Refusal → List ℕ → ℕ → List ℕ → List ℕ → List ℕ → List ℕ → List ℕ → List ℕ → List ℕ → List ℕ → Type 0
+KeptBy (Ok k) s n f kept m o p m' o' p' = AllKept s n f kept o p m' o' p' k.listed k.marked
+KeptBy (Err q) s n f kept m o p m' o' p' = TooFew f m o p m' o' p'
 
-pub record Keeps (r : Kept) (s : List ℕ) (n : ℕ) (f kept m o p m' o' p' : List ℕ) : Type 0 where
+pub record Keeps (r : Result Kept Refusal) (s : List ℕ) (n : ℕ) (f kept m o p m' o' p' : List ℕ) : Type 0 where
   pub answer : kept_is r ≡ list_answer f p
   pub leaves : KeptBy r s n f kept m o p m' o' p'

@@ -2,18 +2,17 @@
 use Prim.Native.Nat.{ℕ, ◌+◌, ◌*◌, ◌/◌, ◌%◌, ◌≤◌, ◌<◌}
 use mathlib.Core.Path.{◌≡◌, refl, sym, ap, ◌∙◌}
 use mathlib.Core.Logic.{◌≢◌, ◌↔◌}
-use mathlib.Core.Bool.{Bool, true, false}
+use mathlib.Core.Bool.{true}
 use mathlib.Core.List.{List, ◌++◌}
 use mathlib.Core.Option.{none, some, some-injective}
 use native.Mathlib.Omega.{arith}
 use native.Mathlib.Decide.{ℕ_discrete, dec_lt, dec_le}
-use lib.Dec.{eqb, leb}
+use lib.Dec.{leb}
 use lib.ListN.{get_or}
 use borrow.Author.Tests.{lt-ltb, le-ltb, le-leb, lt-leb, eq-eqb, ne_eqb}
 use Rattle.heap_slots.specs.Limits.{BOX_HALF, GENERATIONS, SLOT_WORDS, SLOTS_MAX, SPAN}
 use Rattle.heap_slots.specs.Header.{header_at}
-use Rattle.heap_slots.specs.Lookup.{hit_first, missed, pick}
-use Rattle.heap_slots.specs.declared.FoundSlot.TheVariants as F
+use Rattle.heap_slots.specs.Lookup.{hit_first}
 use Rattle.heap_cells.specs.Regions.{raw_at}
 use Rattle.heap_slots.specs.declared.Header.{Header}
 use Rattle.layout.specs.Layout.{Layout}
@@ -31,31 +30,20 @@ use Rattle.heap.specs.Kinds.{content_of, object_of}
 use Rattle.heap.specs.State.{State, raw_of, more_of, slot_of, slot_from, model_of}
 use Rattle.heap.specs.Good.{Good, SlotGood}
 use Rattle.collector_marking.specs.Reach.{SlotReach, by_root, by_object, Marked, Exact}
-use Rattle.collector_marking.specs.Children.{hit, slot_in, children, word_at}
+use Rattle.collector_marking.specs.Children.{hit, children, word_at}
 
 -- ---- words and slots
 
-missed-none : (n u : ℕ) → slot_in n (missed u) ≡ n
-unfolding missed
-missed-none n u = go (leb 131072 u) (leb 65536 u) (eqb u 1) (eqb u 2)
-  where
-    go : (a r b c : Bool) → slot_in n (pick a F.Wrong (pick r F.Dead (pick b F.Wrong (pick c F.Wrong F.Nil)))) ≡ n
-    go true r b c = refl
-    go false true b c = refl
-    go false false true c = refl
-    go false false false true = refl
-    go false false false false = refl
-
 pub hit-outside : (s : List ℕ) (n w : ℕ) → n ≤ w % SPAN → hit s n w ≡ n
 unfolding hit hit_first
-hit-outside s n w h = rw (le-ltb (w % SPAN) n h) (missed-none n (w / SPAN))
+hit-outside s n w h = rw (le-ltb (w % SPAN) n h)
 
 module _ (s : List ℕ) (n w : ℕ) {h : Header} (q : h ≡ header_at s (w % SPAN)) (l : w % SPAN < n) where
   pub hit_other : (h.half ≡ w / SPAN → ⊥) → hit s n w ≡ n
   unfolding hit hit_first header_at
   hit_other e =
       let o : get_or s (w % SPAN * SLOT_WORDS) 0 ≢ w / SPAN = λ x. e (ap (λ (y : Header). y.half) q ∙ x) in
-      rw (lt-ltb (w % SPAN) n l, ne_eqb (get_or s (w % SPAN * SLOT_WORDS) 0) (w / SPAN) o) (missed-none n (w / SPAN))
+      rw (lt-ltb (w % SPAN) n l, ne_eqb (get_or s (w % SPAN * SLOT_WORDS) 0) (w / SPAN) o)
 
   module _ (e : h.half ≡ w / SPAN) where
     tag : (header_at s (w % SPAN)).half ≡ w / SPAN
@@ -65,7 +53,7 @@ module _ (s : List ℕ) (n w : ℕ) {h : Header} (q : h ≡ header_at s (w % SPA
     unfolding hit hit_first header_at
     hit-empty k =
         let o : get_or s (w % SPAN * SLOT_WORDS + 1) 0 ≡ 0 = ap (λ (y : Header). y.kind) (sym q) ∙ k in
-        rw (lt-ltb (w % SPAN) n l, eq-eqb (get_or s (w % SPAN * SLOT_WORDS) 0) (w / SPAN) tag, eq-eqb (get_or s (w % SPAN * SLOT_WORDS + 1) 0) 0 o) (missed-none n (w / SPAN))
+        rw (lt-ltb (w % SPAN) n l, eq-eqb (get_or s (w % SPAN * SLOT_WORDS) 0) (w / SPAN) tag, eq-eqb (get_or s (w % SPAN * SLOT_WORDS + 1) 0) 0 o)
 
     pub hit-there : (h.kind ≡ 0 → ⊥) → hit s n w ≡ w % SPAN
     unfolding hit hit_first header_at

@@ -63,9 +63,6 @@ module _ {hit : ℕ → ℕ} {m o : List ℕ} {k : ℕ} (c : ones m ≡ k) where
 pub room-left : (m : List ℕ) {k i : ℕ} → ones m ≡ k → i < length m → get_or m i 0 ≡ 0 → k < length m
 room-left m {k} {i} c l h = omega (arith, ones-room m i (get_d_in m i 1 0 l ∙ h))
 
-pub marks_as : {hit : ℕ → ℕ} {ws ws' m o m' o' : List ℕ} {k k' : ℕ} → ws ≡ ws' → Marks hit ws' m o k m' o' k' → Marks hit ws m o k m' o' k'
-marks_as e s = rw e s
-
 pub grows : {hit : ℕ → ℕ} {ws m o m' o' : List ℕ} {k k' : ℕ} → ones m ≡ k → Marks hit ws m o k m' o' k' → k ≤ k'
 grows {hit} {ws} {m} c s = omega (arith, s.count, ap ones s.marks, after-ones hit ws m)
 

@@ -4,3 +4,4 @@ pub mod Doing
 pub mod Traced
 pub mod Objects
 pub mod Scanning
+pub mod Adding

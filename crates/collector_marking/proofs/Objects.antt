@@ -130,6 +130,3 @@ kids_held l s x c i {h} q a b = go (ℕ_discrete h.kind 4)
     go : Dec (h.kind ≡ 4) → children l s x c i ≡ h.value ∷ []
     go (yes e) = kids_error l s x c i q e
     go (no e) = kids_box l s x c i q (omega arith)
-
-pub past_three : (k : ℕ) → 3 ≤ k → (k ≡ 3 → ⊥) → 4 ≤ k
-past_three k a n = omega arith

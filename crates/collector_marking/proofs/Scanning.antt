@@ -10,10 +10,12 @@ use lib.ListN.{length, get_or, take, drop, drop_of_length-le}
 use lib.Seq.{drop-cons, drop-append-le, drop_at, get_or-take, length-take-le}
 use Rattle.collector_marking.specs.Reach.{ones, queued, run, phase}
 use Rattle.collector_marking.specs.Children.{hit}
-use Rattle.collector_marking.specs.Marks.{MarksFit, Marks, Present, Listing, Scanned, Phased}
+use Rattle.collector_marking.specs.Marks.{MarksFit, Marks, Same, Adds, Present, Listing, Scanned, Phased}
+use Rattle.collector_marking.specs.declared.Marker.{Marker}
 use Rattle.collector_marking.proofs.ReachLaws.{ones_le, many}
 use Rattle.collector_marking.proofs.Bridge.{hit-is}
 use Rattle.collector_marking.proofs.Doing.{drop-onward, grows}
+use Rattle.collector_marking.proofs.Adding.{same_both}
 
 pub get_d_mem : (l : List ℕ) (i d : ℕ) → i < length l → Memᴰ (get_or l i d) l
 get_d_mem [] i d h = absurd (omega arith)
@@ -51,11 +53,6 @@ run-nil hits kids zero m = refl
 run-nil hits kids (suc f) m = refl
 
 module _ {s : List ℕ} {n : ℕ} {kids : ℕ → List ℕ} {m₀ o₀ : List ℕ} {v₀ k₀ : ℕ} where
-  pub scanning_start : v₀ ≤ k₀ → MarksFit s n m₀ o₀ k₀ → Listing s n m₀ o₀ k₀ → Scanning s n kids m₀ o₀ v₀ k₀ m₀ o₀ v₀ k₀
-  scanning_start a q g =
-      let f : (n + v₀) - v₀ ≡ n = omega arith in
-      record { at = a; from = omega arith; marks_length = q.len; order_length = refl; room = q.room; count = q.count; more = omega arith; rest = refl; listing = g; left = rw f }
-
   module _ {m o : List ℕ} {v k : ℕ} (g : Scanning s n kids m₀ o₀ v₀ k₀ m o v k) where
     pub scanning_few : k ≤ n
     scanning_few = omega (arith, ones_le m, g.count, g.marks_length)
@@ -69,12 +66,15 @@ module _ {s : List ℕ} {n : ℕ} {kids : ℕ → List ℕ} {m₀ o₀ : List �
     front : v < k → drop v (take k o) ≡ get_or o v 0 ∷ drop (suc v) (take k o)
     front h = drop-cons (take k o) v 0 (rw taken h) ∙ rw (get_or-take k o v 0 h)
 
+    pub scanning_fit : MarksFit s n m₀ o₀ k₀ → MarksFit s n m o k
+    scanning_fit r = record { few = r.few; fits = r.fits; len = g.marks_length; room = omega (arith, g.room, g.order_length); count = g.count }
+
+    pub scanning-end : Scanned s n o₀ k₀ m o k
+    scanning-end = record { marks_length = g.marks_length; order_length = g.order_length; count = g.count; more = g.more; rest = g.rest; listing = g.listing }
+
     -- the slot at the queue's front has an object
     pub scanning_slot : v < k → Present s n (get_or o v 0)
     scanning_slot h = g.listing.each (get_or o v 0) (rw (get_or-take k o v 0 h) at (get_d_mem (take k o) v 0 (rw taken h)))
-
-    pub scanning_ready : MarksFit s n m₀ o₀ k₀ → MarksFit s n m o k
-    scanning_ready q = record { few = q.few; fits = q.fits; len = g.marks_length; room = omega (arith, g.room, g.order_length); count = g.count }
 
     pub scanning_step : {m' o' : List ℕ} {k' : ℕ} → v < k → Marks (hit s n) (kids (get_or o v 0)) m o k m' o' k' → Scanning s n kids m₀ o₀ v₀ k₀ m' o' (v + 1) k'
     unfolding run
@@ -103,9 +103,6 @@ module _ {s : List ℕ} {n : ℕ} {kids : ℕ → List ℕ} {m₀ o₀ : List �
         let d : drop v (take k o) ≡ [] = drop_of_length-le (take k o) e in
         run-nil (hit s n) kids ((n + v₀) - v) m ∙ (rw d at g.left)
 
-    pub scanning_end : Scanned s n o₀ k₀ m o k
-    scanning_end = record { marks_length = g.marks_length; order_length = g.order_length; count = g.count; more = g.more; rest = g.rest; listing = g.listing }
-
 -- between the marking of a phase's words and the scan
 module _ {s : List ℕ} {n : ℕ} {ws m o m' o' : List ℕ} {k k' : ℕ} (r : MarksFit s n m o k) (x : Marks (hit s n) ws m o k m' o' k') where
   pub phase_queue : drop k (take k' o') ≡ queued (hit s n) ws m
@@ -124,3 +121,11 @@ module _ {s : List ℕ} {n : ℕ} {ws m o m' o' : List ℕ} {k k' : ℕ} (r : Ma
       listing = z.listing;
     };
   }
+
+-- the queue of the marker a is scanned from v₀ up to v
+pub record Tracing (kids : ℕ → List ℕ) (a : Marker) (v₀ : ℕ) (b : Marker) (v : ℕ) : Type 0 where
+  pub scanning : Scanning a.slots.now a.fresh kids a.marks.now a.order.now v₀ a.marked b.marks.now b.order.now v b.marked
+  pub same : Same a b
+
+pub tracing_step : {kids : ℕ → List ℕ} {ws : List ℕ} {a b d : Marker} {v₀ v : ℕ} → Tracing kids a v₀ b v → v < b.marked → ws ≡ kids (get_or b.order.now v 0) → Adds ws b d → Tracing kids a v₀ d (v + 1)
+tracing_step t h e s = record { scanning = scanning_step t.scanning h (rw (e, t.same.slots, t.same.fresh) at s.marked); same = same_both t.same s.same }

@@ -10,9 +10,6 @@ use lib.ListN.{length, get_or, take, drop, length-drop, drop_of_length-le}
 use lib.Seq.{drop-cons, take_all}
 use borrow.Author.Tests.{lt-ltb, le-ltb, le-leb, lt-leb, eq-eqb, ne_eqb}
 use Rattle.layout.specs.Layout.{Layout, is_traced, registers_of}
-use Rattle.layout.specs.Sections.{Continues, OneMore, listed_from}
-use Rattle.layout.specs.declared.Listed.{Listed}
-use Rattle.layout.specs.declared.Listed.TheVariants.{Number, End}
 use Rattle.map_store.specs.View.{entry_at, entries_in}
 use Rattle.map_store.specs.Entries.{entries_rest, entries_none}
 use Rattle.model.specs.Content.{word_if, words_at, traced_by_type, entry_words, key_word, frame_words}
@@ -46,9 +43,6 @@ items-traced ty ws h = rw (le-leb 1 ty h)
 pub items_plain : (ty : ℕ) (ws : List ℕ) → ty < 1 → cond (is_traced ty) ws [] ≡ []
 items_plain ty ws h = rw (lt-leb 1 ty h)
 
-pub own-captures : (import : ℕ) (ws : List ℕ) → import ≡ 0 → cond (yes import) [] ws ≡ ws
-own-captures import ws h = rw (eq-eqb import 0 h)
-
 pub import_captures : (import : ℕ) (ws : List ℕ) → (import ≡ 0 → ⊥) → cond (yes import) [] ws ≡ []
 import_captures import ws h = rw (ne_eqb import 0 h)
 
@@ -78,9 +72,9 @@ module _ (ws : List ℕ) (base n : ℕ) where
   unfolding word_if
   at_out h = rw (le-ltb (base + n) (length ws) h)
 
-  pub at_in : base + n < length ws → word_if (ltb (base + n) (length ws)) (get_or ws (base + n) 0) ≡ get_or ws (base + n) 0 ∷ []
+  pub at_in : {v : ℕ} → base + n < length ws → v ≡ get_or ws (base + n) 0 → word_if (ltb (base + n) (length ws)) (get_or ws (base + n) 0) ≡ v ∷ []
   unfolding word_if
-  at_in h = rw (lt-ltb (base + n) (length ws) h)
+  at_in h e = rw (lt-ltb (base + n) (length ws) h, e)
 
   pub register-front : {ns rest : List ℕ} → ns ≡ n ∷ rest → words_at (map (λ m. base + m) ns) ws ≡ word_if (ltb (base + n) (length ws)) (get_or ws (base + n) 0) ++ words_at (map (λ m. base + m) rest) ws
   unfolding words_at
@@ -147,12 +141,3 @@ part-rest n c = take_all (length c - n) (drop n c) (omega (arith, length-drop n 
 
 pub part_of : (a n : ℕ) (c : List ℕ) → take ((a + n) - a) (drop a c) ≡ take n (drop a c)
 part_of a n c = let e : (a + n) - a ≡ n = omega arith in rw e
-
--- ---- what a section lists next
-
-module _ (c : ℕ) (bs : List ℕ) (at : ℕ) {r : Listed} (k : Continues c bs at r) where
-  pub listed_more : {n next : ℕ} → r ≡ Number n next → OneMore c bs at n next
-  listed_more e = rw e at k
-
-  pub listed-end : r ≡ End → listed_from c bs at ≡ []
-  listed-end e = rw e at k

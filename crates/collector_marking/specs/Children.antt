@@ -1,10 +1,9 @@
 -- The slot that a word reaches, and the traced words of a slot, read off the lent buffers.
-use Rattle.std.specs.Prelude.{ℕ, ◌+◌, ◌*◌, Bool, ◌&&◌, List, ◌∷◌, ◌++◌, map}
+use Rattle.std.specs.Prelude.{ℕ, ◌+◌, ◌*◌, Bool, ◌&&◌, List, ◌∷◌, ◌++◌, map, Result, Ok, Err}
 use Rattle.heap_slots.specs.Header.{header_at, scalars_at}
 use Rattle.heap_slots.specs.Limits.{SPAN}
 use Rattle.heap_slots.specs.Lookup.{hit_first}
-use Rattle.heap_slots.specs.declared.FoundSlot.{FoundSlot}
-use Rattle.heap_slots.specs.declared.FoundSlot.TheVariants as F
+use Rattle.heap_slots.specs.declared.Miss.{Miss}
 use Rattle.heap_cells.specs.Regions.{raw_at}
 use Rattle.layout.specs.Layout.{Layout, registers_of}
 use Rattle.map_store.specs.Store.{Entry}
@@ -12,11 +11,9 @@ use Rattle.model.specs.Content.{word_if, words_at, traced}
 use Rattle.model.specs.declared.Frame.{Frame}
 use Rattle.heap.specs.Kinds.{content_of}
 
-abbrev pub slot_in : ℕ → FoundSlot → ℕ
-slot_in n (F.At i) = i
-slot_in n F.Nil = n
-slot_in n F.Dead = n
-slot_in n F.Wrong = n
+abbrev pub slot_in : ℕ → Result ℕ Miss → ℕ
+slot_in n (Ok i) = i
+slot_in n (Err m) = n
 
 -- "`get` needs equal tag and a present object"; n where the word reaches none of the first n slots
 unfoldable pub hit : List ℕ → ℕ → ℕ → ℕ

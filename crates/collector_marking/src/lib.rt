@@ -2,638 +2,339 @@
 // marked slots in the order of their marking; those not yet scanned are the queue.
 #![tactic(auto)]
 
-ghost use Rattle.std.specs.Prelude.{◌≡◌, cond, [], ◌∷◌, map, ◌+◌, ◌*◌, ◌≤◌, ◌<◌, ltb, length, get_or, take, drop};
+ghost use Rattle.std.specs.Prelude.{◌≡◌, cond, [], ◌∷◌, ◌++◌, map, ◌+◌, ◌*◌, ◌≤◌, ◌<◌, ltb, length, get_or, take, drop};
 ghost use Rattle.layout.specs.Layout.{is_traced, fields_of, captures_of};
-ghost use Rattle.layout.specs.Sections.{Tabled, layout_of, fields_from, registers_from, captures_from};
+ghost use Rattle.layout.specs.Sections.{layout_of, fields_from, registers_from, captures_from};
 ghost use Rattle.map_store.specs.View.{entry_at, entries_in};
 ghost use Rattle.model.specs.Content.{word_if, words_at, traced_by_type, entry_words, key_word, frame_words};
 ghost use Rattle.heap_slots.specs.Header.{scalars_at};
 ghost use Rattle.heap.specs.Kinds.{yes, perhaps, frame_at, frames_in};
 ghost use Rattle.collector_marking.specs.Reach.{run};
 ghost use Rattle.collector_marking.specs.Children.{hit, children, live_words, one_frame};
-ghost use Rattle.collector_marking.specs.Marks.{MarksFit, Marks, Sound, Listing, Present, Scanned, Phased, Unmarked};
+ghost use Rattle.collector_marking.specs.Marks.{MarksFit, Fit, Same, Adds, Sound, Listing, Present, Scanned, Phased, Unmarked};
 
-use heap_slots::{kinds, limits};
-use layout::Listed;
+use heap_slots::{CoroutineScalars, IteratorScalars, MapScalars, kinds, limits};
+use layout::{Entry, Listed, ReadLayout, Section};
 
-// Marks the slot that the word reaches, if it is not marked, and puts it into the order. Gives the
-// number of marked slots.
-pub fn mark_word(
-    w: u64,
-    slots: &[u64],
-    fresh: usize,
-    marks: &mut [u8],
-    order: &mut [u32],
-    marked: usize,
-) -> usize
-    requires { MarksFit slots.now fresh marks.old order.old marked }
-    ensures { Marks (hit slots.now fresh) (w ∷ []) marks.old order.old marked marks.new order.new result }
-{
-    let i = (w % limits::SPAN) as usize;
-    if fresh <= i {
-        return marked;
-    }
-    let h = heap_slots::read_header(slots, i);
-    if h.half != w / limits::SPAN {
-        return marked;
-    }
-    if h.kind == kinds::NONE {
-        return marked;
-    }
-    if marks[i] != 0 {
-        return marked;
-    }
-    marks[i] = 1;
-    order[marked] = i as u32;
-    marked + 1
+// The first `fresh` slots, a mark for each of them, and the marked slots, `marked` of them, in the
+// order of their marking.
+#[derive(Drop)]
+pub struct Marker<'a> {
+    pub slots: &'a [u64],
+    pub fresh: usize,
+    pub marks: &'a mut [u8],
+    pub order: &'a mut [u32],
+    pub marked: usize,
 }
 
-// Marks the word, if its type is traced.
-fn mark_typed(
-    ty: u64,
-    w: u64,
-    slots: &[u64],
-    fresh: usize,
-    marks: &mut [u8],
-    order: &mut [u32],
-    marked: usize,
-) -> usize
-    requires { MarksFit slots.now fresh marks.old order.old marked }
-    ensures { Marks (hit slots.now fresh) (word_if (is_traced ty) w) marks.old order.old marked marks.new order.new result }
-{
-    if 1 <= ty {
-        return mark_word(w, slots, fresh, marks, order, marked);
-    }
-    marked
-}
-
-pub fn mark_words(
-    words: &[u64],
-    slots: &[u64],
-    fresh: usize,
-    marks: &mut [u8],
-    order: &mut [u32],
-    marked: usize,
-) -> usize
-    requires { MarksFit slots.now fresh marks.old order.old marked }
-    ensures { Marks (hit slots.now fresh) words.now marks.old order.old marked marks.new order.new result }
-{
-    let mut k = marked;
-    let mut i: usize = 0;
-    while i < words.len() {
-        k = mark_word(words[i], slots, fresh, marks, order, k);
-        i += 1;
-    }
-    k
-}
-
-// A map's entry: its key, then its value, if it is live.
-fn mark_entry(
-    cells: &[u64],
-    p: usize,
-    keys: u64,
-    values: u64,
-    slots: &[u64],
-    fresh: usize,
-    marks: &mut [u8],
-    order: &mut [u32],
-    marked: usize,
-) -> usize
-    requires p_in_bounds { p * 5 + 5 ≤ length cells.now }
-    requires marks_fit { MarksFit slots.now fresh marks.old order.old marked }
-    ensures { Marks (hit slots.now fresh) (live_words (is_traced keys) (is_traced values) (entry_at cells.now p)) marks.old order.old marked marks.new order.new result }
-{
-    let at = p * 5;
-    if cells[at + 4] != 1 {
-        return marked;
-    }
-    let k = mark_typed(keys, cells[at + 1], slots, fresh, marks, order, marked);
-    mark_typed(values, cells[at + 2], slots, fresh, marks, order, k)
-}
-
-fn mark_entries(
-    cells: &[u64],
-    count: usize,
-    keys: u64,
-    values: u64,
-    slots: &[u64],
-    fresh: usize,
-    marks: &mut [u8],
-    order: &mut [u32],
-    marked: usize,
-) -> usize
-    requires count_in_bounds { count * 5 ≤ length cells.now }
-    requires marks_fit { MarksFit slots.now fresh marks.old order.old marked }
-    ensures { Marks (hit slots.now fresh) (entry_words (is_traced keys) (is_traced values) (entries_in cells.now 0 count)) marks.old order.old marked marks.new order.new result }
-{
-    let mut k = marked;
-    let mut p: usize = 0;
-    while p < count {
-        k = mark_entry(cells, p, keys, values, slots, fresh, marks, order, k);
-        p += 1;
-    }
-    k
-}
-
-// Marks the word at base + n, an exact sum; outside there is none.
-fn mark_at(
-    words: &[u64],
-    base: u64,
-    n: u64,
-    slots: &[u64],
-    fresh: usize,
-    marks: &mut [u8],
-    order: &mut [u32],
-    marked: usize,
-) -> usize
-    requires { MarksFit slots.now fresh marks.old order.old marked }
-    ensures { Marks (hit slots.now fresh) (word_if (ltb (base + n) (length words.now)) (get_or words.now (base + n) 0)) marks.old order.old marked marks.new order.new result }
-{
-    let count = words.len() as u64;
-    if count <= base {
-        return marked;
-    }
-    if count - base <= n {
-        return marked;
-    }
-    let i = (base + n) as usize;
-    mark_word(words[i], slots, fresh, marks, order, marked)
-}
-
-// Marks four words.
-fn mark_four(
-    a: u64,
-    b: u64,
-    c: u64,
-    d: u64,
-    slots: &[u64],
-    fresh: usize,
-    marks: &mut [u8],
-    order: &mut [u32],
-    marked: usize,
-) -> usize
-    requires { MarksFit slots.now fresh marks.old order.old marked }
-    ensures { Marks (hit slots.now fresh) (a ∷ b ∷ c ∷ d ∷ []) marks.old order.old marked marks.new order.new result }
-{
-    let k = mark_word(a, slots, fresh, marks, order, marked);
-    let k2 = mark_word(b, slots, fresh, marks, order, k);
-    let k3 = mark_word(c, slots, fresh, marks, order, k2);
-    mark_word(d, slots, fresh, marks, order, k3)
-}
-
-// An iterator: its source; its key, if it has one and the type is traced.
-fn mark_iterator(
-    source: u64,
-    ty: u64,
-    known: u64,
-    key: u64,
-    slots: &[u64],
-    fresh: usize,
-    marks: &mut [u8],
-    order: &mut [u32],
-    marked: usize,
-) -> usize
-    requires { MarksFit slots.now fresh marks.old order.old marked }
-    ensures { Marks (hit slots.now fresh) (source ∷ key_word (is_traced ty) (perhaps known key)) marks.old order.old marked marks.new order.new result }
-{
-    let k = mark_word(source, slots, fresh, marks, order, marked);
-    if known == 0 {
-        return k;
-    }
-    mark_typed(ty, key, slots, fresh, marks, order, k)
-}
-
-// Marks the fields that a struct type lists, from a place in its section on.
-fn mark_fields(
-    fields: &[u64],
-    layout: &[u8],
-    at: usize,
-    slots: &[u64],
-    fresh: usize,
-    marks: &mut [u8],
-    order: &mut [u32],
-    marked: usize,
-) -> usize
-    requires { MarksFit slots.now fresh marks.old order.old marked }
-    ensures { Marks (hit slots.now fresh) (words_at (fields_from layout.now at) fields.now) marks.old order.old marked marks.new order.new result }
-{
-    let mut k = marked;
-    let mut from = at;
-    loop {
-        let Listed::Number(n, next) = layout::next_field(layout, from) else {
-            return k;
-        };
-        k = mark_at(fields, 0, n, slots, fresh, marks, order, k);
-        from = next;
-    }
-}
-
-// Marks the registers base + number that a function lists, from a place in its section on.
-fn mark_registers(
-    registers: &[u64],
-    base: u64,
-    layout: &[u8],
-    at: usize,
-    slots: &[u64],
-    fresh: usize,
-    marks: &mut [u8],
-    order: &mut [u32],
-    marked: usize,
-) -> usize
-    requires { MarksFit slots.now fresh marks.old order.old marked }
-    ensures { Marks (hit slots.now fresh) (words_at (map (λ n. base + n) (registers_from layout.now at)) registers.now) marks.old order.old marked marks.new order.new result }
-{
-    let mut k = marked;
-    let mut from = at;
-    loop {
-        let Listed::Number(n, next) = layout::next_register(layout, from) else {
-            return k;
-        };
-        k = mark_at(registers, base, n, slots, fresh, marks, order, k);
-        from = next;
-    }
-}
-
-// Marks the captures whose type, as a function lists it, is traced.
-fn mark_captures(
-    captures: &[u64],
-    layout: &[u8],
-    at: usize,
-    slots: &[u64],
-    fresh: usize,
-    marks: &mut [u8],
-    order: &mut [u32],
-    marked: usize,
-) -> usize
-    requires { MarksFit slots.now fresh marks.old order.old marked }
-    ensures { Marks (hit slots.now fresh) (traced_by_type (captures_from layout.now at) captures.now) marks.old order.old marked marks.new order.new result }
-{
-    let mut k = marked;
-    let mut from = at;
-    let mut j: usize = 0;
-    loop {
-        let Listed::Number(ty, next) = layout::next_capture(layout, from) else {
-            return k;
-        };
-        if captures.len() <= j {
-            return k;
+impl Marker<'_> {
+    // Marks the slot that the word reaches, if it is not marked, and puts it into the order.
+    pub fn mark_word(&mut self, w: u64)
+        requires { Fit self.old }
+        ensures { Adds (w ∷ []) self.old self.new }
+    {
+        let i = (w % limits::SPAN) as usize;
+        if self.fresh <= i {
+            return;
         }
-        k = mark_typed(ty, captures[j], slots, fresh, marks, order, k);
-        from = next;
-        j += 1;
+        let h = heap_slots::read_header(self.slots, i);
+        if h.half != w / limits::SPAN {
+            return;
+        }
+        if h.kind == kinds::NONE {
+            return;
+        }
+        if self.marks[i] != 0 {
+            return;
+        }
+        self.marks[i] = 1;
+        self.order[self.marked] = i as u32;
+        self.marked += 1;
     }
-}
 
-// A frame: its closure, then its function's registers.
-fn mark_frame(
-    registers: &[u64],
-    frames: &[u64],
-    j: usize,
-    layout: &[u8],
-    table: &[u64],
-    slots: &[u64],
-    fresh: usize,
-    marks: &mut [u8],
-    order: &mut [u32],
-    marked: usize,
-) -> usize
-    requires j_in_bounds { j * 4 + 4 ≤ length frames.now }
-    requires tabled { Tabled layout.now table.now }
-    requires marks_fit { MarksFit slots.now fresh marks.old order.old marked }
-    ensures { Marks (hit slots.now fresh) (one_frame (layout_of layout.now) registers.now (frame_at frames.now j)) marks.old order.old marked marks.new order.new result }
-{
-    let at = j * 4;
-    let k = mark_word(frames[at + 3], slots, fresh, marks, order, marked);
-    let from = layout::function_section(layout, table, frames[at]);
-    mark_registers(
-        registers,
-        frames[at + 2],
-        layout,
-        from,
-        slots,
-        fresh,
-        marks,
-        order,
-        k,
+    // Marks the word, if its type is traced.
+    fn mark_typed(&mut self, ty: u64, w: u64)
+        requires { Fit self.old }
+        ensures { Adds (word_if (is_traced ty) w) self.old self.new }
+    {
+        if 1 <= ty {
+            self.mark_word(w);
+        }
+    }
+
+    pub fn mark_words(&mut self, words: &[u64])
+        requires { Fit self.old }
+        ensures { Adds words.now self.old self.new }
+    {
+        for w in words {
+            self.mark_word(*w);
+        }
+    }
+
+    // A map's entry: its key, then its value, if it is live.
+    fn mark_entry(&mut self, cells: &[u64], p: usize, keys: u64, values: u64)
+        requires p_in_bounds { p * 5 + 5 ≤ length cells.now }
+        requires fit { Fit self.old }
+        ensures { Adds (live_words (is_traced keys) (is_traced values) (entry_at cells.now p)) self.old self.new }
+    {
+        let at = p * 5;
+        if cells[at + 4] == 1 {
+            self.mark_typed(keys, cells[at + 1]);
+            self.mark_typed(values, cells[at + 2]);
+        }
+    }
+
+    fn mark_entries(&mut self, cells: &[u64], count: usize, keys: u64, values: u64)
+        requires count_in_bounds { count * 5 ≤ length cells.now }
+        requires fit { Fit self.old }
+        ensures { Adds (entry_words (is_traced keys) (is_traced values) (entries_in cells.now 0 count)) self.old self.new }
+    {
+        for p in 0..count {
+            self.mark_entry(cells, p, keys, values);
+        }
+    }
+
+    // Marks the word at base + n, an exact sum; outside there is none.
+    fn mark_at(&mut self, words: &[u64], base: u64, n: u64)
+        requires { Fit self.old }
+        ensures { Adds (word_if (ltb (base + n) (length words.now)) (get_or words.now (base + n) 0)) self.old self.new }
+    {
+        let Some(i) = base.checked_add(n) else {
+            return;
+        };
+        if let Some(w) = words.get(i as usize) {
+            self.mark_word(*w);
+        }
+    }
+
+    // An iterator: its source; its key, if it has one and the type is traced.
+    fn mark_iterator(&mut self, source: u64, ty: u64, known: u64, key: u64)
+        requires { Fit self.old }
+        ensures { Adds (source ∷ key_word (is_traced ty) (perhaps known key)) self.old self.new }
+    {
+        self.mark_word(source);
+        if known != 0 {
+            self.mark_typed(ty, key);
+        }
+    }
+
+    // Marks the fields that a struct type lists, from a place in its section on.
+    fn mark_fields(&mut self, fields: &[u64], layout: ReadLayout<'_>, at: usize)
+        requires { Fit self.old }
+        ensures { Adds (words_at (fields_from layout.entry.bytes.now at) fields.now) self.old self.new }
+    {
+        let mut from = at;
+        while let Some(Listed { number, next }) = layout.next(Entry::Field, from) {
+            self.mark_at(fields, 0, number);
+            from = next;
+        }
+    }
+
+    // Marks the registers base + number that a function lists, from a place in its section on.
+    fn mark_registers(&mut self, registers: &[u64], base: u64, layout: ReadLayout<'_>, at: usize)
+        requires { Fit self.old }
+        ensures { Adds (words_at (map (λ n. base + n) (registers_from layout.entry.bytes.now at)) registers.now) self.old self.new }
+    {
+        let mut from = at;
+        while let Some(Listed { number, next }) = layout.next(Entry::Register, from) {
+            self.mark_at(registers, base, number);
+            from = next;
+        }
+    }
+
+    // Marks the captures whose type, as a function lists it, is traced.
+    fn mark_captures(&mut self, captures: &[u64], layout: ReadLayout<'_>, at: usize)
+        requires { Fit self.old }
+        ensures { Adds (traced_by_type (captures_from layout.entry.bytes.now at) captures.now) self.old self.new }
+    {
+        let mut from = at;
+        for capture in captures {
+            let Some(Listed { number, next }) = layout.next(Entry::Capture, from) else {
+                return;
+            };
+            self.mark_typed(number, *capture);
+            from = next;
+        }
+    }
+
+    // A frame: its closure, then its function's registers.
+    fn mark_frame(&mut self, registers: &[u64], frames: &[u64], j: usize, layout: ReadLayout<'_>)
+        requires j_in_bounds { j * 4 + 4 ≤ length frames.now }
+        requires fit { Fit self.old }
+        ensures { Adds (one_frame (layout_of layout.entry.bytes.now) registers.now (frame_at frames.now j)) self.old self.new }
+    {
+        let at = j * 4;
+        self.mark_word(frames[at + 3]);
+        let from = layout.section(Section::Function, frames[at]);
+        self.mark_registers(registers, frames[at + 2], layout, from);
+    }
+
+    fn mark_frames(
+        &mut self,
+        registers: &[u64],
+        frames: &[u64],
+        count: usize,
+        layout: ReadLayout<'_>,
     )
-}
-
-fn mark_frames(
-    registers: &[u64],
-    frames: &[u64],
-    count: usize,
-    layout: &[u8],
-    table: &[u64],
-    slots: &[u64],
-    fresh: usize,
-    marks: &mut [u8],
-    order: &mut [u32],
-    marked: usize,
-) -> usize
-    requires count_in_bounds { count * 4 ≤ length frames.now }
-    requires tabled { Tabled layout.now table.now }
-    requires marks_fit { MarksFit slots.now fresh marks.old order.old marked }
-    ensures { Marks (hit slots.now fresh) (frame_words (layout_of layout.now) registers.now (frames_in frames.now 0 count)) marks.old order.old marked marks.new order.new result }
-{
-    let mut k = marked;
-    let mut j: usize = 0;
-    while j < count {
-        k = mark_frame(
-            registers, frames, j, layout, table, slots, fresh, marks, order, k,
-        );
-        j += 1;
+        requires count_in_bounds { count * 4 ≤ length frames.now }
+        requires fit { Fit self.old }
+        ensures { Adds (frame_words (layout_of layout.entry.bytes.now) registers.now (frames_in frames.now 0 count)) self.old self.new }
+    {
+        for j in 0..count {
+            self.mark_frame(registers, frames, j, layout);
+        }
     }
-    k
-}
 
-fn mark_items(
-    ty: u64,
-    items: &[u64],
-    slots: &[u64],
-    fresh: usize,
-    marks: &mut [u8],
-    order: &mut [u32],
-    marked: usize,
-) -> usize
-    requires { MarksFit slots.now fresh marks.old order.old marked }
-    ensures { Marks (hit slots.now fresh) (cond (is_traced ty) items.now []) marks.old order.old marked marks.new order.new result }
-{
-    if 1 <= ty {
-        return mark_words(items, slots, fresh, marks, order, marked);
+    fn mark_items(&mut self, ty: u64, items: &[u64])
+        requires { Fit self.old }
+        ensures { Adds (cond (is_traced ty) items.now []) self.old self.new }
+    {
+        if 1 <= ty {
+            self.mark_words(items);
+        }
     }
-    marked
-}
 
-fn mark_struct(
-    number: u64,
-    fields: &[u64],
-    layout: &[u8],
-    table: &[u64],
-    slots: &[u64],
-    fresh: usize,
-    marks: &mut [u8],
-    order: &mut [u32],
-    marked: usize,
-) -> usize
-    requires tabled { Tabled layout.now table.now }
-    requires marks_fit { MarksFit slots.now fresh marks.old order.old marked }
-    ensures { Marks (hit slots.now fresh) (words_at (fields_of (layout_of layout.now) number) fields.now) marks.old order.old marked marks.new order.new result }
-{
-    let at = layout::struct_section(layout, table, number);
-    mark_fields(fields, layout, at, slots, fresh, marks, order, marked)
-}
-
-// A function object: none of an import's captures.
-fn mark_function(
-    import: u64,
-    number: u64,
-    captures: &[u64],
-    layout: &[u8],
-    table: &[u64],
-    slots: &[u64],
-    fresh: usize,
-    marks: &mut [u8],
-    order: &mut [u32],
-    marked: usize,
-) -> usize
-    requires tabled { Tabled layout.now table.now }
-    requires marks_fit { MarksFit slots.now fresh marks.old order.old marked }
-    ensures { Marks (hit slots.now fresh) (cond (yes import) [] (traced_by_type (captures_of (layout_of layout.now) number) captures.now)) marks.old order.old marked marks.new order.new result }
-{
-    if import == 0 {
-        let at = layout::function_section(layout, table, number);
-        return mark_captures(captures, layout, at, slots, fresh, marks, order, marked);
+    fn mark_struct(&mut self, number: u64, fields: &[u64], layout: ReadLayout<'_>)
+        requires { Fit self.old }
+        ensures { Adds (words_at (fields_of (layout_of layout.entry.bytes.now) number) fields.now) self.old self.new }
+    {
+        let at = layout.section(Section::Struct, number);
+        self.mark_fields(fields, layout, at);
     }
-    marked
-}
 
-// A coroutine whose region has `len` registers, then `count` frames of four cells.
-fn mark_coroutine(
-    cells: &[u64],
-    len: usize,
-    count: usize,
-    payload: u64,
-    key: u64,
-    res: u64,
-    signal: u64,
-    layout: &[u8],
-    table: &[u64],
-    slots: &[u64],
-    fresh: usize,
-    marks: &mut [u8],
-    order: &mut [u32],
-    marked: usize,
-) -> usize
-    requires cells_len { length cells.now ≡ len + 4 * count }
-    requires tabled { Tabled layout.now table.now }
-    requires marks_fit { MarksFit slots.now fresh marks.old order.old marked }
-    ensures { Marks (hit slots.now fresh) (payload ∷ key ∷ res ∷ signal ∷ frame_words (layout_of layout.now) (take len cells.now) (frames_in (drop len cells.now) 0 count)) marks.old order.old marked marks.new order.new result }
-{
-    let k = mark_four(
-        payload, key, res, signal, slots, fresh, marks, order, marked,
-    );
-    mark_frames(
-        &cells[..len],
-        &cells[len..],
-        count,
-        layout,
-        table,
-        slots,
-        fresh,
-        marks,
-        order,
-        k,
+    // A function object: none of an import's captures.
+    fn mark_function(&mut self, import: u64, number: u64, captures: &[u64], layout: ReadLayout<'_>)
+        requires { Fit self.old }
+        ensures { Adds (cond (yes import) [] (traced_by_type (captures_of (layout_of layout.entry.bytes.now) number) captures.now)) self.old self.new }
+    {
+        if import == 0 {
+            let at = layout.section(Section::Function, number);
+            self.mark_captures(captures, layout, at);
+        }
+    }
+
+    // A coroutine whose region has `len` registers, then `count` frames of four cells; `waiting` are
+    // its payload, key, result and signal.
+    fn mark_coroutine(
+        &mut self,
+        waiting: [u64; 4],
+        cells: &[u64],
+        len: usize,
+        count: usize,
+        layout: ReadLayout<'_>,
     )
-}
-
-// Marks the traced words of the object in slot i.
-fn mark_object(
-    i: usize,
-    slots: &[u64],
-    scalars: &[u64],
-    cells: &[u64],
-    layout: &[u8],
-    table: &[u64],
-    fresh: usize,
-    marks: &mut [u8],
-    order: &mut [u32],
-    marked: usize,
-) -> usize
-    requires present { Present slots.now fresh i }
-    requires sound { Sound slots.now scalars.now cells.now fresh }
-    requires tabled { Tabled layout.now table.now }
-    requires marks_fit { MarksFit slots.now fresh marks.old order.old marked }
-    ensures { Marks (hit slots.now fresh) (children (layout_of layout.now) slots.now scalars.now cells.now i) marks.old order.old marked marks.new order.new result }
-{
-    let h = heap_slots::read_header(slots, i);
-    let kind = h.kind;
-    let a = h.start as usize;
-    let e = a + h.size as usize;
-    match kind {
-        kinds::CELL => mark_typed(h.mode, h.value, slots, fresh, marks, order, marked),
-        kinds::ERROR | kinds::BOX => mark_word(h.value, slots, fresh, marks, order, marked),
-        kinds::ARRAY => {
-            let end = a + h.len as usize;
-            mark_items(h.mode, &cells[a..end], slots, fresh, marks, order, marked)
-        },
-        kinds::MAP => {
-            let x = heap_slots::read_map(scalars, i);
-            mark_entries(
-                &cells[a..e],
-                h.len as usize,
-                x.keys,
-                x.values,
-                slots,
-                fresh,
-                marks,
-                order,
-                marked,
-            )
-        },
-        kinds::STRUCT => {
-            let end = a + h.len as usize;
-            mark_struct(
-                h.value,
-                &cells[a..end],
-                layout,
-                table,
-                slots,
-                fresh,
-                marks,
-                order,
-                marked,
-            )
-        },
-        kinds::FUNCTION => {
-            let end = a + h.len as usize;
-            mark_function(
-                h.mode,
-                h.value,
-                &cells[a..end],
-                layout,
-                table,
-                slots,
-                fresh,
-                marks,
-                order,
-                marked,
-            )
-        },
-        kinds::ITERATOR => {
-            let x = heap_slots::read_iterator(scalars, i);
-            mark_iterator(
-                h.value, h.mode, x.keyed, x.key, slots, fresh, marks, order, marked,
-            )
-        },
-        kinds::COROUTINE => {
-            let x = heap_slots::read_coroutine(scalars, i);
-            mark_coroutine(
-                &cells[a..e],
-                h.len as usize,
-                x.frames as usize,
-                x.payload,
-                x.key,
-                x.result,
-                x.signal,
-                layout,
-                table,
-                slots,
-                fresh,
-                marks,
-                order,
-                marked,
-            )
-        },
-        _ => marked,
+        requires cells_len { length cells.now ≡ len + 4 * count }
+        requires fit { Fit self.old }
+        ensures { Adds (waiting ++ frame_words (layout_of layout.entry.bytes.now) (take len cells.now) (frames_in (drop len cells.now) 0 count)) self.old self.new }
+    {
+        self.mark_words(&waiting);
+        self.mark_frames(&cells[..len], &cells[len..], count, layout);
     }
-}
 
-// The same, by the shortest way for a box: its one word stands in the header.
-fn mark_next(
-    i: usize,
-    slots: &[u64],
-    scalars: &[u64],
-    cells: &[u64],
-    layout: &[u8],
-    table: &[u64],
-    fresh: usize,
-    marks: &mut [u8],
-    order: &mut [u32],
-    marked: usize,
-) -> usize
-    requires present { Present slots.now fresh i }
-    requires sound { Sound slots.now scalars.now cells.now fresh }
-    requires tabled { Tabled layout.now table.now }
-    requires marks_fit { MarksFit slots.now fresh marks.old order.old marked }
-    ensures { Marks (hit slots.now fresh) (children (layout_of layout.now) slots.now scalars.now cells.now i) marks.old order.old marked marks.new order.new result }
-{
-    let h = heap_slots::read_header(slots, i);
-    if h.kind == kinds::BOX {
-        return mark_word(h.value, slots, fresh, marks, order, marked);
+    // Marks the traced words of the object in slot i.
+    fn mark_object(&mut self, i: usize, scalars: &[u64], cells: &[u64], layout: ReadLayout<'_>)
+        requires present { Present self.old.slots.now self.old.fresh i }
+        requires sound { Sound self.old.slots.now scalars.now cells.now self.old.fresh }
+        requires fit { Fit self.old }
+        ensures { Adds (children (layout_of layout.entry.bytes.now) self.old.slots.now scalars.now cells.now i) self.old self.new }
+    {
+        let h = heap_slots::read_header(self.slots, i);
+        let a = h.start as usize;
+        let e = a + h.size as usize;
+        match h.kind {
+            kinds::CELL => self.mark_typed(h.mode, h.value),
+            kinds::ERROR | kinds::BOX => self.mark_word(h.value),
+            kinds::ARRAY => self.mark_items(h.mode, &cells[a..a + h.len as usize]),
+            kinds::MAP => {
+                let x: MapScalars = heap_slots::read_part(scalars, i);
+                self.mark_entries(&cells[a..e], h.len as usize, x.keys, x.values)
+            },
+            kinds::STRUCT => self.mark_struct(h.value, &cells[a..a + h.len as usize], layout),
+            kinds::FUNCTION => {
+                self.mark_function(h.mode, h.value, &cells[a..a + h.len as usize], layout)
+            },
+            kinds::ITERATOR => {
+                let x: IteratorScalars = heap_slots::read_part(scalars, i);
+                self.mark_iterator(h.value, h.mode, x.keyed, x.key)
+            },
+            kinds::COROUTINE => {
+                let x: CoroutineScalars = heap_slots::read_part(scalars, i);
+                let waiting = [x.payload, x.key, x.result, x.signal];
+                self.mark_coroutine(
+                    waiting,
+                    &cells[a..e],
+                    h.len as usize,
+                    x.frames as usize,
+                    layout,
+                )
+            },
+            _ => {},
+        }
     }
-    mark_object(
-        i, slots, scalars, cells, layout, table, fresh, marks, order, marked,
-    )
-}
 
-// Scans the slots of the order from `visited` on, until each marked slot is scanned. The order is a
-// queue: a long chain of objects takes no more room than a short one.
-fn trace(
-    slots: &[u64],
-    scalars: &[u64],
-    cells: &[u64],
-    layout: &[u8],
-    table: &[u64],
-    fresh: usize,
-    marks: &mut [u8],
-    order: &mut [u32],
-    visited: usize,
-    marked: usize,
-) -> usize
-    requires visited_le_marked { visited ≤ marked }
-    requires sound { Sound slots.now scalars.now cells.now fresh }
-    requires tabled { Tabled layout.now table.now }
-    requires marks_fit { MarksFit slots.now fresh marks.old order.old marked }
-    requires listing { Listing slots.now fresh marks.old order.old marked }
-    ensures marks_after { marks.new ≡ run (hit slots.now fresh) (children (layout_of layout.now) slots.now scalars.now cells.now) fresh marks.old (drop visited (take marked order.old)) }
-    ensures scanned { Scanned slots.now fresh order.old marked marks.new order.new result }
-{
-    let mut v = visited;
-    let mut k = marked;
-    while v < k {
-        let i = order[v] as usize;
-        k = mark_next(
-            i, slots, scalars, cells, layout, table, fresh, marks, order, k,
-        );
-        v += 1;
+    // The same, by the shortest way for a box: its one word stands in the header.
+    fn mark_next(&mut self, i: usize, scalars: &[u64], cells: &[u64], layout: ReadLayout<'_>)
+        requires present { Present self.old.slots.now self.old.fresh i }
+        requires sound { Sound self.old.slots.now scalars.now cells.now self.old.fresh }
+        requires fit { Fit self.old }
+        ensures { Adds (children (layout_of layout.entry.bytes.now) self.old.slots.now scalars.now cells.now i) self.old self.new }
+    {
+        let h = heap_slots::read_header(self.slots, i);
+        if h.kind == kinds::BOX {
+            self.mark_word(h.value);
+        } else {
+            self.mark_object(i, scalars, cells, layout);
+        }
     }
-    k
+
+    // Scans the slots of the order from `visited` on, until each marked slot is scanned. The order is
+    // a queue: a long chain of objects takes no more room than a short one.
+    fn trace(&mut self, scalars: &[u64], cells: &[u64], layout: ReadLayout<'_>, visited: usize)
+        requires visited_le_marked { visited ≤ self.old.marked }
+        requires sound { Sound self.old.slots.now scalars.now cells.now self.old.fresh }
+        requires fit { Fit self.old }
+        requires listing { Listing self.old.slots.now self.old.fresh self.old.marks.now self.old.order.now self.old.marked }
+        ensures marks_after { self.new.marks.now ≡ run (hit self.old.slots.now self.old.fresh) (children (layout_of layout.entry.bytes.now) self.old.slots.now scalars.now cells.now) self.old.fresh self.old.marks.now (drop visited (take self.old.marked self.old.order.now)) }
+        ensures scanned { Scanned self.old.slots.now self.old.fresh self.old.order.now self.old.marked self.new.marks.now self.new.order.now self.new.marked }
+        ensures same { Same self.old self.new }
+    {
+        let mut v = visited;
+        while v < self.marked {
+            let i = self.order[v] as usize;
+            self.mark_next(i, scalars, cells, layout);
+            v += 1;
+        }
+    }
 }
 
 // Marks the words and all that they reach: with the roots, and then with the coroutines to be
-// finalized.
+// finalized. Gives the number of marked slots.
 pub fn mark_from(
     words: &[u64],
     slots: &[u64],
     scalars: &[u64],
     cells: &[u64],
-    layout: &[u8],
-    table: &[u64],
+    layout: ReadLayout<'_>,
     fresh: usize,
     marks: &mut [u8],
     order: &mut [u32],
     marked: usize,
 ) -> usize
     requires sound { Sound slots.now scalars.now cells.now fresh }
-    requires tabled { Tabled layout.now table.now }
     requires marks_fit { MarksFit slots.now fresh marks.old order.old marked }
     requires listing { Listing slots.now fresh marks.old order.old marked }
-    ensures { Phased slots.now fresh (children (layout_of layout.now) slots.now scalars.now cells.now) words.now marks.old order.old marked marks.new order.new result }
+    ensures { Phased slots.now fresh (children (layout_of layout.entry.bytes.now) slots.now scalars.now cells.now) words.now marks.old order.old marked marks.new order.new result }
 {
-    let k = mark_words(words, slots, fresh, marks, order, marked);
-    trace(
-        slots, scalars, cells, layout, table, fresh, marks, order, marked, k,
-    )
+    let mut marker = Marker {
+        slots,
+        fresh,
+        marks,
+        order,
+        marked,
+    };
+    marker.mark_words(words);
+    marker.trace(scalars, cells, layout, marked);
+    marker.marked
 }
 
 // Undoes the marks, and the order's first places. All marks are cleared in one pass: to follow the
@@ -642,7 +343,6 @@ pub fn unmark(marks: &mut [u8], order: &mut [u32], marked: usize)
     requires { marked ≤ length order.old }
     ensures { Unmarked marks.old order.old marked marks.new order.new }
 {
-    let all = marks.len();
-    heap::resting::clear_marks(marks, all);
-    heap::resting::clear_order(order, marked);
+    marks.fill(0);
+    order[..marked].fill(0);
 }

@@ -1,5 +1,6 @@
 -- What the functions promise of a reading, from what its call promises. Assumes nothing.
 use Prim.Native.Nat.{ℕ}
+use Rattle.std.specs.Prelude.{Option}
 use mathlib.Core.Path.{◌≡◌, refl, ap}
 use mathlib.Core.Bool.{Bool}
 use mathlib.Core.List.{[]}
@@ -8,7 +9,6 @@ use lib.Ieee.{Float}
 use Rattle.layout.specs.Layout.{Layout}
 use Rattle.words.specs.Word as Words
 use Rattle.words.specs.declared.Raw.{Raw}
-use Rattle.words.specs.declared.Inline.{Inline}
 use Rattle.history.proofs.Lift.{Seen}
 use Rattle.model.specs.Calls.{Call, char_word, effect, float_word, integer_word, read_word, reference_word, same, same_words, truth_word}
 use Rattle.model.specs.Model.{view_of}
@@ -46,9 +46,9 @@ module _ {x : Act} {r : Performed} where
   unfolding terms effect
   float_read f e p q = word_so (float_word f) (λ l t. refl) (λ l t. refl) (ap (λ (v : ℕ). number v) e) p q
 
-  pub integer_read : (z : ℤ) {w : Inline} → w ≡ Words.word_of_int z → KnownFrom (answered (inline w)) r → x ≡ make (integer_word z) → (t : State) → Good t → ReadBy t x r
+  pub integer_read : (z : ℤ) {w : Option ℕ} → w ≡ Words.word_of_int z → KnownFrom (answered (inline w)) r → x ≡ make (integer_word z) → (t : State) → Good t → ReadBy t x r
   unfolding terms effect
-  integer_read z e p q = word_so (integer_word z) (λ l t. refl) (λ l t. refl) (ap (λ (v : Inline). inline v) e) p q
+  integer_read z e p q = word_so (integer_word z) (λ l t. refl) (λ l t. refl) (ap (λ (v : Option ℕ). inline v) e) p q
 
   pub reference_read : (s t : ℕ) {w : ℕ} → w ≡ Words.word_of_ref s t → KnownFrom (answered (number w)) r → x ≡ make (reference_word s t) → (t : State) → Good t → ReadBy t x r
   unfolding terms effect

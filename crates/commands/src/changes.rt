@@ -16,6 +16,7 @@ use collections_maps::changes::insert_entry;
 use collector::Collected;
 use heap::{Done, Heap, Made, Reading, Settled};
 use heap_allocation::{Coroutine, new_coroutine_flat, new_function};
+use layout::ReadLayout;
 
 // ---- what the calls show
 
@@ -494,18 +495,20 @@ pub fn lent_call(
     ensures marks_unchanged { marks.new ≡ marks.old }
     ensures order_unchanged { order.new ≡ order.old }
 {
+    let read = ReadLayout {
+        bytes: layout,
+        table,
+    };
     match code {
         0x0C => {
             let k = collector::collect(
-                heap, slots, scalars, list, directory, cells, layout, table, marks, order, words,
-                places,
+                heap, slots, scalars, list, directory, cells, read, marks, order, words, places,
             );
             collected_turn(k)
         }
         0x0F => {
             let k = collector::collect(
-                heap, slots, scalars, list, directory, cells, layout, table, marks, order, words,
-                places,
+                heap, slots, scalars, list, directory, cells, read, marks, order, words, places,
             );
             collected_turn(k)
         }

@@ -21,8 +21,9 @@ use collections_iterators::CursorRead;
 use collections_maps::{EntryRead, NextInt, Noted};
 use heap::{Heap, Kind, Reading, Signed, Test};
 use heap_access::FrameRead;
-use map_store::{Cursor, Last};
-use words::{Inline, Raw};
+use map_store::Cursor;
+use std::num::f64_from_bits_with_nan;
+use words::Raw;
 
 // ---- what a reading shows, by its answer
 
@@ -62,7 +63,7 @@ fn kind(a: Kind) -> Performed
     Performed::Known(answers::kind(a))
 }
 
-fn inline(a: Inline) -> Performed
+fn inline(a: Option<u64>) -> Performed
     ensures { KnownFrom (answered (Replies.inline a)) result }
 {
     Performed::Known(answers::inline(a))
@@ -118,7 +119,7 @@ fn word_call(code: u64, o: Operands) -> Performed
     match code {
         0x60 => number(words::from_bool(o.a != 0)),
         0x61 => number(words::from_char((o.a % 0x1_0000_0000) as u32)),
-        0x62 => number(words::from_f64(words::float_of_bits(o.a))),
+        0x62 => number(words::from_f64(f64_from_bits_with_nan(o.a))),
         0x63 => inline(words::inline_int(words::signed_of(o.a))),
         0x64 => number(words::from_ref((o.a % 0x1_0000_0000) as u32, (o.b % 0x1_0000) as u16)),
         0x65 => raw(words::decode(o.a)),
@@ -318,13 +319,13 @@ fn cursor_in(o: Operands) -> Cursor
 {
     if o.b == 0 {
         return Cursor {
-            last: Last::Never,
+            last: None,
             pos: o.d as usize,
             epoch: (o.e % 0x1_0000_0000) as u32,
         };
     }
     Cursor {
-        last: Last::Seq(o.c),
+        last: Some(o.c),
         pos: o.d as usize,
         epoch: (o.e % 0x1_0000_0000) as u32,
     }

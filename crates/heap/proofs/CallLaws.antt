@@ -1,4 +1,5 @@
 -- The promises of the heap's own calls, one law for each answer. Assumes nothing.
+use Rattle.std.proofs.Common.{Result, Ok, Err}
 use Prim.Native.Nat.{ℕ, ◌/◌}
 use mathlib.Core.Path.{◌≡◌, refl, ap, sym, ◌∙◌, fun_ext}
 use mathlib.Core.Logic.{◌≢◌, inl, inr}
@@ -15,15 +16,15 @@ use Rattle.words.specs.WordLaws.{and_left, and_right, decode_float_range, decode
 use Rattle.words.specs.declared.Raw.{Raw}
 use Rattle.words.specs.declared.Raw.TheVariants as R
 use Rattle.account.specs.declared.Account.{Account}
-use Rattle.account.specs.declared.Charged.{Charged}
-use Rattle.account.specs.declared.Charged.TheVariants as C
+use Rattle.account.specs.declared.OverBudget.{OverBudget}
+use Rattle.std.specs.Prelude.{Result, Ok, Err}
 use Rattle.account.specs.Account.{charge_is, charge_of, charged, fits, wants_collection}
 use Rattle.account.specs.AccountLaws.{charge-next, charge-over}
 use Rattle.heap_slots.specs.Header.{header_at}
 use Rattle.heap_slots.specs.Lookup.{Finds, hit_first}
 use Rattle.heap_slots.proofs.LookupLaws.{finds_so, found_wrong}
-use Rattle.heap_slots.specs.declared.FoundSlot.{FoundSlot}
-use Rattle.heap_slots.specs.declared.FoundSlot.TheVariants as F
+use Rattle.heap_slots.specs.declared.Miss.{Miss}
+use Rattle.heap_slots.specs.declared.Miss.TheVariants as F
 use Rattle.heap_slots.specs.declared.Header.{Header}
 use Rattle.heap_slots.proofs.Cases.{by_cases, lt_or_le}
 use Rattle.heap_cells.specs.Regions.{raw_at}
@@ -113,14 +114,14 @@ row-array v w = go (decode_word w) refl
     go (R.Char k) e = rw e
     go (R.Ref s t) e = rw e (at (look_ref v (some (ref_of s t))))
 
-row-by : (l : Layout) {t : State} {w : ℕ} (f : FoundSlot) → Good t → Finds t.slots t.heap.fresh w f → row_of (view_of (model_of l t)) w ≡ row_by t.slots f
+row-by : (l : Layout) {t : State} {w : ℕ} (f : Result ℕ Miss) → Good t → Finds t.slots t.heap.fresh w f → row_of (view_of (model_of l t)) w ≡ row_by t.slots f
 unfolding row_of row_by read_or raw_at
-row-by l {t} {w} (F.At i) g d =
+row-by l {t} {w} (Ok i) g d =
     let h = found-reached g d refl in
     rw h.reads (reads_content l 15 row h ∙ row_of_content (raw_of t i) (more_of t i) (omega (arith, h.present)) (g.each i h.within).kind)
-row-by l F.Nil g d = rw (nil_reads l g d refl)
-row-by l F.Dead g d = rw (dead_reads l g d refl, dead-look l g d refl)
-row-by l F.Wrong g d = found_wrong (halves g) d 0 0 _ refl
+row-by l (Err F.Nil) g d = rw (nil_reads l g d refl)
+row-by l (Err F.Dead) g d = rw (dead_reads l g d refl, dead-look l g d refl)
+row-by l (Err F.Wrong) g d = found_wrong (halves g) d 0 0 _ refl
 
 pub row_read : (l : Layout) {t : State} {w r : ℕ} → Good t → Ranks t.slots t.heap.fresh w r → row_of (view_of (model_of l t)) w ≡ r
 row_read l {t} {w} g d = row-by l (hit_first t.slots t.heap.fresh w) g (finds_so refl) ∙ sym d.is
@@ -129,12 +130,12 @@ pub get_read : {t : State} {w r : ℕ} → Good t → Ranks t.slots t.heap.fresh
 unfolding terms effect
 get_read {w = w} g d = reads_so (Calls.get w) g (λ l. refl) (λ l. ap (λ (n : ℕ). uncharged [] (number n)) (row_read l g d))
 
-row-max-by : {t : State} {w : ℕ} (f : FoundSlot) → Good t → Finds t.slots t.heap.fresh w f → RowOrDead (row_by t.slots f)
+row-max-by : {t : State} {w : ℕ} (f : Result ℕ Miss) → Good t → Finds t.slots t.heap.fresh w f → RowOrDead (row_by t.slots f)
 unfolding row_by raw_at
-row-max-by (F.At i) g d = inl (g.each i (found-reached g d refl).within).kind
-row-max-by F.Nil g d = inl (omega arith)
-row-max-by F.Dead g d = inr refl
-row-max-by F.Wrong g d = inl (omega arith)
+row-max-by (Ok i) g d = inl (g.each i (found-reached g d refl).within).kind
+row-max-by (Err F.Nil) g d = inl (omega arith)
+row-max-by (Err F.Dead) g d = inr refl
+row-max-by (Err F.Wrong) g d = inl (omega arith)
 
 pub row-max : {t : State} {w r : ℕ} → Good t → Ranks t.slots t.heap.fresh w r → RowOrDead r
 row-max {t} {w} g d = rw d.is (row-max-by (hit_first t.slots t.heap.fresh w) g (finds_so refl))
@@ -274,12 +275,12 @@ good-account g a = record {
   room = g.room;
 }
 
-module _ {t : State} {bytes : ℕ} {r : Charged} (g : Good t) (d : charge_is t.heap.account r ≡ charge_of t.heap.account bytes) where
-  pub charge-refused : r ≡ C.Refused → Performs (Calls.charge bytes) t (refused No.OverBudget) t
+module _ {t : State} {bytes : ℕ} {r : Result Account OverBudget} (g : Good t) (d : charge_is t.heap.account r ≡ charge_of t.heap.account bytes) where
+  pub charge-refused : {over : OverBudget} → r ≡ Err over → Performs (Calls.charge bytes) t (refused No.OverBudget) t
   unfolding terms charging effect
   charge-refused e l = does_5 l g (Calls.charge bytes) first_none refl (charge-over t.heap.account bytes d e) refl
 
-  pub charge-accepted : {a : Account} → r ≡ C.Next a → Performs (Calls.charge bytes) t (answered nothing) (with_heap t (with_account t.heap a))
+  pub charge-accepted : {a : Account} → r ≡ Ok a → Performs (Calls.charge bytes) t (answered nothing) (with_heap t (with_account t.heap a))
   unfolding terms charging effect seen step judged finish accept apply answer_of account_after paid collections_after slotless added model_of
   charge-accepted {a} e l =
       let m = model_of l t in

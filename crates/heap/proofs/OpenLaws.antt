@@ -17,8 +17,8 @@ use Rattle.heap_cells.proofs.LaidLaws.{laid-empty}
 use Rattle.heap_slots.specs.FreeList.{free_list}
 use Rattle.layout.specs.Layout.{Layout, parse}
 use Rattle.layout.specs.Sections.{LayoutRead, is_layout, opening_number, layout_of, readable, table_after}
-use Rattle.layout.specs.declared.Checked.{Checked}
-use Rattle.layout.specs.declared.Checked.TheVariants as Check
+use Rattle.std.specs.Prelude.{Result, IsOk}
+use Rattle.layout.specs.declared.BadLayout.{BadLayout}
 use Rattle.layout.proofs.Lookup.{none-parsed, tabled-layout}
 use Rattle.history.proofs.Facts.{leb_yes}
 use Rattle.model.specs.Opening.{Opening, between, open_heap, open_with, opened, sizes_fit}
@@ -122,7 +122,7 @@ pub room-short : (o : Opening) (t : State) (x : Beside) → room_for o.slots (le
 unfolding accepts
 room-short o t x h = rw (h, and_no (leb 514 (length x.table)), and_no (is_some (open_heap o)))
 
-layout_so : (b : Bool) → opening_number Check.Refused ≡ cond b 0 10 → b ≡ false
+layout_so : (b : Bool) → ◌≡◌ {A = ℕ} 10 (cond b 0 10) → b ≡ false
 layout_so true e = absurd (omega arith)
 layout_so false e = refl
 
@@ -132,10 +132,10 @@ unfolding accepts open_heap open_with is_some
 layout-no o t x true e h = rw h (and_no (is_some (open_heap o)))
 layout-no o t x false e h = rw (none-parsed o.layout e)
 
-pub layout-refused : (o : Opening) (t : State) (x : Beside) {table : List ℕ} {r : Checked} → LayoutRead o.layout x.table table r → r ≡ Check.Refused → (accepts o t x ≡ false) × (table ≡ x.table)
+pub layout-refused : (o : Opening) (t : State) (x : Beside) {table : List ℕ} {r : Result Unit BadLayout} → LayoutRead o.layout x.table table r → opening_number r ≡ 10 → (accepts o t x ≡ false) × (table ≡ x.table)
 unfolding table_after
 layout-refused o t x w e =
-    let f = layout_so (readable o.layout x.table) (sym (ap opening_number e) ∙ w.number) in
+    let f = layout_so (readable o.layout x.table) (sym e ∙ w.number) in
     (layout-no o t x (is_layout o.layout) refl f, w.table ∙ rw f)
 
 opens-no : {o : Opening} {t : State} {x y : Beside} → accepts o t x ≡ false → y ≡ x → Opens o t x (Refused BadOpening) y
@@ -145,7 +145,7 @@ opens-no h e = record { answer = rw h; number = rw h; accepted = λ z. absurd (l
 pub opens-refused : {o : Opening} {t : State} {x : Beside} → accepts o t x ≡ false → Opens o t x (Refused BadOpening) x
 opens-refused h = opens-no h refl
 
-pub opens-unread : {o : Opening} {t : State} {x : Beside} {table : List ℕ} {r : Checked} → LayoutRead o.layout x.table table r → r ≡ Check.Refused → Opens o t x (Refused BadOpening) (beside table x.marks x.order)
+pub opens-unread : {o : Opening} {t : State} {x : Beside} {table : List ℕ} {r : Result Unit BadLayout} → LayoutRead o.layout x.table table r → opening_number r ≡ 10 → Opens o t x (Refused BadOpening) (beside table x.marks x.order)
 opens-unread {o} {t} {x} w e = let f = layout-refused o t x w e in opens-no f.0 (rw f.1)
 
 -- ---- accepted
@@ -204,8 +204,8 @@ module _ (o : Opening) (s x f d c : List ℕ) (b : Beside) where
   abbrev heap-opened : State
   heap-opened = state (new_heap o.slots o.limit o.weights) s x f d c
 
-  pub opens-accepted : {table marks order : List ℕ} {r : Checked} → sizes_fit o ≡ true → o.cells ≡ length c → room_for o.slots (length s) (length x) (length f) (length d) (length b.marks) (length b.order) ≡ true →
-      LayoutRead o.layout b.table table r → r ≡ Check.Accepted → marks ≡ cleared b.marks o.slots → order ≡ cleared b.order (o.slots * 2) → Opens o heap-opened b (Ready heap-opened.heap) (beside table marks order)
+  pub opens-accepted : {table marks order : List ℕ} {r : Result Unit BadLayout} → sizes_fit o ≡ true → o.cells ≡ length c → room_for o.slots (length s) (length x) (length f) (length d) (length b.marks) (length b.order) ≡ true →
+      LayoutRead o.layout b.table table r → IsOk r → marks ≡ cleared b.marks o.slots → order ≡ cleared b.order (o.slots * 2) → Opens o heap-opened b (Ready heap-opened.heap) (beside table marks order)
   unfolding accepts open_heap open_with is_some opened_by opened_number table_after
   opens-accepted {table} {marks} {order} sizes cells room w e em eo =
       let k = w.tabled e in

@@ -1,4 +1,5 @@
 -- From the lookup of a word to what the model says of it: the object that it reaches, or the refusal. Assumes nothing.
+use Rattle.std.proofs.Common.{Result, Ok, Err}
 use Prim.Native.Nat.{ℕ, ◌+◌, ◌*◌, ◌%◌, ◌≤◌, ◌<◌}
 use mathlib.Core.Path.{◌≡◌, refl, ap, sym, ◌∙◌}
 use mathlib.Core.Bool.{Bool, true, false, cond, ◌&&◌, beq}
@@ -12,8 +13,8 @@ use Rattle.words.specs.Word.{decode_word, ref_slot, ref_tag}
 use Rattle.words.specs.declared.Raw.TheVariants as R
 use Rattle.heap_slots.specs.Header.{header_at}
 use Rattle.heap_slots.specs.Lookup.{Finds, hit_first}
-use Rattle.heap_slots.specs.declared.FoundSlot.{FoundSlot}
-use Rattle.heap_slots.specs.declared.FoundSlot.TheVariants as F
+use Rattle.heap_slots.specs.declared.Miss.{Miss}
+use Rattle.heap_slots.specs.declared.Miss.TheVariants as F
 use Rattle.heap_slots.proofs.Cases.{by_cases, lt_or_le, same_or_not}
 use Rattle.heap_slots.proofs.LookupLaws.{FoundNone, finds_so, found_at, found-dead, found-nil, found_wrong}
 use Rattle.heap_cells.specs.Regions.{raw_at}
@@ -138,36 +139,36 @@ module _ (l : Layout) {t : State} {w : ℕ} (g : Good t) where
       (λ p q. m.none lt ne (half_is (raw_of t (ref_slot w)).half (ref_tag w) (g.each (ref_slot w) lt).half_low (g.each (ref_slot w) lt).half_high m.tag p q))))))
       (λ ge. rw (slot-unused t (ref_slot w) ge))
 
-  pub nil_reads : {f : FoundSlot} → Finds t.slots t.heap.fresh w f → f ≡ F.Nil → decode_word w ≡ R.Nil
+  pub nil_reads : {f : Result ℕ Miss} → Finds t.slots t.heap.fresh w f → f ≡ Err F.Nil → decode_word w ≡ R.Nil
   nil_reads d e = found-nil (halves g) d e
 
-  pub nil-look : {f : FoundSlot} → Finds t.slots t.heap.fresh w f → f ≡ F.Nil → look (view_of (model_of l t)) w ≡ none
+  pub nil-look : {f : Result ℕ Miss} → Finds t.slots t.heap.fresh w f → f ≡ Err F.Nil → look (view_of (model_of l t)) w ≡ none
   unfolding ref_in
   nil-look d e = look-no-slot (view_of (model_of l t)) w (rw (nil_reads d e))
 
-  pub nil-target : {f : FoundSlot} → Finds t.slots t.heap.fresh w f → f ≡ F.Nil → (is : Content → Bool) → target (view_of (model_of l t)) is w ≡ 1
+  pub nil-target : {f : Result ℕ Miss} → Finds t.slots t.heap.fresh w f → f ≡ Err F.Nil → (is : Content → Bool) → target (view_of (model_of l t)) is w ≡ 1
   nil-target d e is = target-nil (view_of (model_of l t)) is w (nil_reads d e)
 
   -- a reference that misses
-  pub dead_reads : {f : FoundSlot} → Finds t.slots t.heap.fresh w f → f ≡ F.Dead → decode_word w ≡ R.Ref (ref_slot w) (ref_tag w)
+  pub dead_reads : {f : Result ℕ Miss} → Finds t.slots t.heap.fresh w f → f ≡ Err F.Dead → decode_word w ≡ R.Ref (ref_slot w) (ref_tag w)
   dead_reads d e = (found-dead (halves g) d e).reads
 
-  pub dead-look : {f : FoundSlot} → Finds t.slots t.heap.fresh w f → f ≡ F.Dead → look (view_of (model_of l t)) w ≡ none
+  pub dead-look : {f : Result ℕ Miss} → Finds t.slots t.heap.fresh w f → f ≡ Err F.Dead → look (view_of (model_of l t)) w ≡ none
   dead-look d e = missed-look (found-dead (halves g) d e)
 
-  pub dead-target : {f : FoundSlot} → Finds t.slots t.heap.fresh w f → f ≡ F.Dead → (is : Content → Bool) → target (view_of (model_of l t)) is w ≡ 11
+  pub dead-target : {f : Result ℕ Miss} → Finds t.slots t.heap.fresh w f → f ≡ Err F.Dead → (is : Content → Bool) → target (view_of (model_of l t)) is w ≡ 11
   dead-target d e is = target-dead (view_of (model_of l t)) is w (ref_slot w) (ref_tag w) (dead_reads d e) (dead-look d e)
 
   -- neither nil nor a reference
-  pub wrong_look : {f : FoundSlot} → Finds t.slots t.heap.fresh w f → f ≡ F.Wrong → look (view_of (model_of l t)) w ≡ none
+  pub wrong_look : {f : Result ℕ Miss} → Finds t.slots t.heap.fresh w f → f ≡ Err F.Wrong → look (view_of (model_of l t)) w ≡ none
   unfolding ref_in
   wrong_look d e = look-no-slot (view_of (model_of l t)) w (found_wrong (halves g) d none none (λ slot tag. some (ref_of slot tag)) e)
 
-  pub wrong_target : {f : FoundSlot} → Finds t.slots t.heap.fresh w f → f ≡ F.Wrong → (is : Content → Bool) → target (view_of (model_of l t)) is w ≡ 2
+  pub wrong_target : {f : Result ℕ Miss} → Finds t.slots t.heap.fresh w f → f ≡ Err F.Wrong → (is : Content → Bool) → target (view_of (model_of l t)) is w ≡ 2
   unfolding target
   wrong_target d e is = found_wrong (halves g) d 1 2 _ e
 
-pub found-reached : {t : State} {w i : ℕ} {f : FoundSlot} → Good t → Finds t.slots t.heap.fresh w f → f ≡ F.At i → Reached t w i
+pub found-reached : {t : State} {w i : ℕ} {f : Result ℕ Miss} → Good t → Finds t.slots t.heap.fresh w f → f ≡ Ok i → Reached t w i
 unfolding raw_at
 found-reached g d e =
     let a = found_at (halves g) d e in
@@ -191,27 +192,27 @@ picked_refused : (b : Bool) (j : ℕ) {q : Refusal} → pick b (At j) (Refused O
 picked_refused true j x = absurd (at-refused x)
 picked_refused false j x = (refl, (cc))
 
-at-by : {t : State} {w i kind : ℕ} (f : FoundSlot) → Good t → Finds t.slots t.heap.fresh w f → located_by t.slots kind f ≡ At i → Target t w i kind
+at-by : {t : State} {w i kind : ℕ} (f : Result ℕ Miss) → Good t → Finds t.slots t.heap.fresh w f → located_by t.slots kind f ≡ At i → Target t w i kind
 unfolding located_by raw_at
-at-by {t} {kind = kind} (F.At j) g d x =
+at-by {t} {kind = kind} (Ok j) g d x =
     let p = picked_at (eqb (header_at t.slots j).kind kind) x in
     let e : (header_at t.slots j).kind ≡ kind = eqb-true _ _ p.0 in
-    record { reached = found-reached g d (ap F.At p.1); kind-is = rw p.1 at e }
-at-by F.Nil g d x = absurd (at-refused (sym x))
-at-by F.Dead g d x = absurd (at-refused (sym x))
-at-by F.Wrong g d x = absurd (at-refused (sym x))
+    record { reached = found-reached g d (ap Ok p.1); kind-is = rw p.1 at e }
+at-by (Err F.Nil) g d x = absurd (at-refused (sym x))
+at-by (Err F.Dead) g d x = absurd (at-refused (sym x))
+at-by (Err F.Wrong) g d x = absurd (at-refused (sym x))
 
-refused-by : (l : Layout) {t : State} {w kind : ℕ} {is : Content → Bool} {q : Refusal} → Says is kind → (f : FoundSlot) → Good t → Finds t.slots t.heap.fresh w f → located_by t.slots kind f ≡ Refused q →
+refused-by : (l : Layout) {t : State} {w kind : ℕ} {is : Content → Bool} {q : Refusal} → Says is kind → (f : Result ℕ Miss) → Good t → Finds t.slots t.heap.fresh w f → located_by t.slots kind f ≡ Refused q →
     target (view_of (model_of l t)) is w ≡ number_of q
 unfolding located_by raw_at number_of unless
-refused-by l {t} {kind = kind} {is = is} s (F.At j) g d x =
+refused-by l {t} {kind = kind} {is = is} s (Ok j) g d x =
     let p = picked_refused (eqb (header_at t.slots j).kind kind) j x in
     let h = found-reached g d refl in
     let k = (g.each j h.within).kind in
     rw (← p.1) (reached-target h l is ∙ rw (kind_test (raw_of t j) (more_of t j) (omega (arith, h.present)) k s ∙ p.0))
-refused-by l {is = is} {q = q} s F.Nil g d x = let e : NilTarget ≡ q = (cc) in rw (← e) (nil-target l g d refl is)
-refused-by l {is = is} {q = q} s F.Dead g d x = let e : DeadReference ≡ q = (cc) in rw (← e) (dead-target l g d refl is)
-refused-by l {is = is} {q = q} s F.Wrong g d x = let e : OtherKind ≡ q = (cc) in rw (← e) (wrong_target l g d refl is)
+refused-by l {is = is} {q = q} s (Err F.Nil) g d x = let e : NilTarget ≡ q = (cc) in rw (← e) (nil-target l g d refl is)
+refused-by l {is = is} {q = q} s (Err F.Dead) g d x = let e : DeadReference ≡ q = (cc) in rw (← e) (dead-target l g d refl is)
+refused-by l {is = is} {q = q} s (Err F.Wrong) g d x = let e : OtherKind ≡ q = (cc) in rw (← e) (wrong_target l g d refl is)
 
 module _ {t : State} {w kind : ℕ} {r : Located} (g : Good t) (d : Locates t.slots t.heap.fresh w kind r) where
   pub located_at : {i : ℕ} → r ≡ At i → Target t w i kind

@@ -8,8 +8,8 @@ use lib.Dec.{eqb, ltb}
 use lib.ListN.{get_or, length, set}
 use Rattle.heap_slots.specs.Limits.{HALF_END, SLOT_WORDS, SLOTS_MAX, SPAN}
 use Rattle.account.specs.declared.Account.{Account}
-use Rattle.account.specs.declared.Charged.{Charged}
-use Rattle.account.specs.declared.Charged.TheVariants as C
+use Rattle.account.specs.declared.OverBudget.{OverBudget}
+use Rattle.std.specs.Prelude.{Result, Ok, Err}
 use Rattle.account.specs.Account.{charge_is, charge_of, fits}
 use Rattle.account.specs.AccountLaws.{charge-next, charge-over}
 use Rattle.heap_slots.specs.Header.{header_at, set_header, with_half, with_region}
@@ -86,7 +86,7 @@ seatable {t} {bytes} {size} g e =
     }
 
 module _ {h : Heap} {s list : List ℕ} {bytes size : ℕ} (g : Seatable h s list bytes size) where
-  pub seat-charged : {r : Charged} → charge_is h.account r ≡ charge_of h.account bytes → r ≡ C.Refused → ⊥
+  pub seat-charged : {r : Result Account OverBudget} {over : OverBudget} → charge_is h.account r ≡ charge_of h.account bytes → r ≡ Err over → ⊥
   seat-charged e z = let y : true ≡ false = sym g.in_budget ∙ charge-over h.account bytes e z in let w : ◌≡◌ {A = ℕ} 0 1 = cc in absurd (omega arith)
 
   module _ {flag : ℕ} {t : TakenSlot} (e : Takes s list h.fresh h.free flag t) where
@@ -103,7 +103,7 @@ module _ {h : Heap} {s list : List ℕ} {bytes size : ℕ} (g : Seatable h s lis
 abbrev pub seated_heap : Heap → Account → TakenSlot → ℕ → ℕ → Heap
 seated_heap h a t size coroutine = with_objects h a t.fresh t.free h.top h.entries (h.taken + size) (h.present + 1) (h.coroutines + coroutine)
 
-pub seats : (h : Heap) {s s' list : List ℕ} (bytes : ℕ) (hd : Header) {flag coroutine : ℕ} {t : TakenSlot} {c : Charged} {a : Account} → Takes s list h.fresh h.free flag t → flag ≡ flag_of hd.kind → coroutine ≡ coroutine_of hd.kind → charge_is h.account c ≡ charge_of h.account bytes → c ≡ C.Next a →
+pub seats : (h : Heap) {s s' list : List ℕ} (bytes : ℕ) (hd : Header) {flag coroutine : ℕ} {t : TakenSlot} {c : Result Account OverBudget} {a : Account} → Takes s list h.fresh h.free flag t → flag ≡ flag_of hd.kind → coroutine ≡ coroutine_of hd.kind → charge_is h.account c ≡ charge_of h.account bytes → c ≡ Ok a →
     s' ≡ set_header s t.slot (with_half hd t.half) → Seats h s list hd bytes record { heap = seated_heap h a t hd.size coroutine; answer = Is (t.half * SPAN + t.slot) } s'
 seats h {s} {list = list} bytes hd {t = t} e f o p q w =
     let half : t.half ≡ taken_half s list h.free + flag_of hd.kind = e.half ∙ ap (λ (n : ℕ). taken_half s list h.free + n) f in

@@ -1,5 +1,6 @@
 -- What a slot's header, scalars and cells mean, by kind (document 01, "Slot and object", the table of kinds).
-use Rattle.std.specs.Prelude.{ℕ, zero, suc, ◌+◌, ◌*◌, Bool, cond, not, List, [], ◌∷◌, eqb, get_or, take, drop}
+use Rattle.std.specs.Prelude.{ℕ, zero, suc, ◌+◌, ◌*◌, Bool, cond, not, List, [], ◌∷◌, ℤ, eqb, get_or, take, drop}
+use Rattle.std.specs.Prelude as Prelude
 use Rattle.std.proofs.Math.Option.{Option, none, some}
 use Rattle.words.specs.Word.{signed_bits}
 use Rattle.heap_slots.specs.Kinds.{ARRAY, BOX, CELL, COROUTINE, ERROR, FUNCTION, INTEGER, ITERATOR, MAP, NONE, STRING, STRUCT}
@@ -31,9 +32,13 @@ by_row k a1 a2 a3 a4 a5 a6 a7 a8 a9 a10 a11 =
     cond (eqb k STRING) a1 (cond (eqb k INTEGER) a2 (cond (eqb k CELL) a3 (cond (eqb k ERROR) a4 (cond (eqb k BOX) a5 (cond (eqb k ARRAY) a6 (cond (eqb k MAP) a7
     (cond (eqb k STRUCT) a8 (cond (eqb k FUNCTION) a9 (cond (eqb k ITERATOR) a10 a11)))))))))
 
+-- a map's noted key in two words
+abbrev pub noted_from : ℕ → ℕ → Prelude.Option ℤ
+noted_from known w = cond (eqb known 0) Prelude.None (Prelude.Some (signed_bits w))
+
 -- the map's record: capacity in value, index length in mode, places in len
 abbrev pub map_of : RawSlot → Scalars → MapStore
-map_of r x = let m = map_part x in record { noted = signed_bits m.noted; len = r.len; live = m.live; fresh = m.next; capacity = r.value; index = r.mode; epoch = m.epoch; hashed = yes m.hashed; known = yes m.known }
+map_of r x = let m = map_part x in record { noted = noted_from m.known m.noted; len = r.len; live = m.live; fresh = m.next; capacity = r.value; index = r.mode; epoch = m.epoch; hashed = yes m.hashed }
 
 abbrev pub cursor_of : Scalars → Cursor
 cursor_of x = let k = iterator_part x in record { last = perhaps k.stepped k.last; pos = k.position; epoch = k.epoch }

@@ -1,10 +1,10 @@
 -- The object that a call is made on (document 01, refusals 1 and 2; document 02, (i), 11).
-use Rattle.std.specs.Prelude.{ℕ, ◌≤◌, ◌≡◌, Bool, true, false, cond, ◌⊎◌, List, eqb}
+use Rattle.std.specs.Prelude.{ℕ, ◌≤◌, ◌≡◌, Bool, true, false, cond, ◌⊎◌, List, eqb, Result, Ok, Err}
 use Rattle.heap_slots.specs.Header.{header_at}
 use Rattle.heap_slots.specs.Kinds.{DEAD, NONE}
 use Rattle.heap_slots.specs.Lookup.{hit_first}
-use Rattle.heap_slots.specs.declared.FoundSlot.{FoundSlot}
-use Rattle.heap_slots.specs.declared.FoundSlot.TheVariants as F
+use Rattle.heap_slots.specs.declared.Miss.{Miss}
+use Rattle.heap_slots.specs.declared.Miss.TheVariants as F
 use Rattle.heap.specs.declared.Located.{Located}
 use Rattle.heap.specs.declared.Located.TheVariants.{At, Refused}
 use Rattle.heap.specs.declared.Refusal.TheVariants.{DeadReference, NilTarget, OtherKind}
@@ -16,11 +16,11 @@ pick true a b = a
 pick false a b = b
 
 -- by what the word reaches: an object of the kind, or the refusal
-unfoldable pub located_by : List ℕ → ℕ → FoundSlot → Located
-located_by s kind (F.At i) = pick (eqb (header_at s i).kind kind) (At i) (Refused OtherKind)
-located_by s kind F.Nil = Refused NilTarget
-located_by s kind F.Dead = Refused DeadReference
-located_by s kind F.Wrong = Refused OtherKind
+unfoldable pub located_by : List ℕ → ℕ → Result ℕ Miss → Located
+located_by s kind (Ok i) = pick (eqb (header_at s i).kind kind) (At i) (Refused OtherKind)
+located_by s kind (Err F.Nil) = Refused NilTarget
+located_by s kind (Err F.Dead) = Refused DeadReference
+located_by s kind (Err F.Wrong) = Refused OtherKind
 
 unfoldable pub located_in : List ℕ → ℕ → ℕ → ℕ → Located
 located_in s n w kind = located_by s kind (hit_first s n w)
@@ -31,22 +31,22 @@ located_number (At i) = 0
 located_number (Refused q) = number_of q
 
 -- "1 .. nil", "11, dead reference", "2 another kind, or a word neither nil nor reference"
-unfoldable pub target_number : List ℕ → ℕ → FoundSlot → ℕ
-target_number s kind (F.At i) = cond (eqb (header_at s i).kind kind) 0 2
-target_number s kind F.Nil = 1
-target_number s kind F.Dead = 11
-target_number s kind F.Wrong = 2
+unfoldable pub target_number : List ℕ → ℕ → Result ℕ Miss → ℕ
+target_number s kind (Ok i) = cond (eqb (header_at s i).kind kind) 0 2
+target_number s kind (Err F.Nil) = 1
+target_number s kind (Err F.Dead) = 11
+target_number s kind (Err F.Wrong) = 2
 
 pub record Locates (s : List ℕ) (n w kind : ℕ) (r : Located) : Type 0 where
   pub is : r ≡ located_in s n w kind
   pub number : located_number r ≡ target_number s kind (hit_first s n w)
 
 -- the row of the object that a word reaches; DEAD for a dead reference, else NONE
-unfoldable pub row_by : List ℕ → FoundSlot → ℕ
-row_by s (F.At i) = (header_at s i).kind
-row_by s F.Nil = NONE
-row_by s F.Dead = DEAD
-row_by s F.Wrong = NONE
+unfoldable pub row_by : List ℕ → Result ℕ Miss → ℕ
+row_by s (Ok i) = (header_at s i).kind
+row_by s (Err F.Nil) = NONE
+row_by s (Err F.Dead) = DEAD
+row_by s (Err F.Wrong) = NONE
 
 -- what may stand there
 abbrev pub RowOrDead : ℕ → Type 0

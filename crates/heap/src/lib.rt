@@ -18,9 +18,9 @@ ghost use Rattle.model.specs.Opening.{between, sizes_fit};
 ghost use Rattle.heap.specs.Opens.{Opens, beside, new_heap, opening_of, room_for, weights_fit};
 ghost use Rattle.heap.specs.Promise.{Performs, Reads};
 
-use account::{Account, Charged};
+use account::{Account, OverBudget};
 use heap_slots::{kinds, limits};
-use layout::Checked;
+use layout::BadLayout;
 use model::Weights;
 use words::Raw;
 
@@ -251,13 +251,12 @@ pub fn charge(
     requires { Good (state heap slots.now scalars.now list.now directory.now cells.now) }
     ensures { Performs (Calls.charge bytes) (state heap slots.now scalars.now list.now directory.now cells.now) (done_is result.done) (state result.heap slots.now scalars.now list.now directory.now cells.now) }
 {
-    let account = heap.account;
-    match account.charge(bytes) {
-        Charged::Refused => Settled {
+    match heap.account.charge(bytes) {
+        Err(OverBudget) => Settled {
             heap,
             done: Done::Refused(Refusal::OverBudget),
         },
-        Charged::Next(next) => {
+        Ok(next) => {
             let mut h = heap;
             h.account = next;
             Settled {
@@ -281,8 +280,7 @@ pub fn fits(
     requires { Good (state heap slots.now scalars.now list.now directory.now cells.now) }
     ensures { Reads (Calls.fits_bytes bytes) (state heap slots.now scalars.now list.now directory.now cells.now) (answered (truth result)) }
 {
-    let account = heap.account;
-    account.allows(bytes)
+    heap.account.fits(bytes)
 }
 
 // Whether a collection is due before `extra` bytes more.
@@ -298,8 +296,7 @@ pub fn wants_gc(
     requires { Good (state heap slots.now scalars.now list.now directory.now cells.now) }
     ensures { Reads (Calls.wants_gc extra) (state heap slots.now scalars.now list.now directory.now cells.now) (answered (truth result)) }
 {
-    let account = heap.account;
-    account.wants_gc(extra)
+    heap.account.wants_gc(extra)
 }
 
 // How many collections there have been.
@@ -507,8 +504,8 @@ pub fn open(
         return Opened::Refused(Refusal::BadOpening);
     }
     match layout::read_layout(layout, table) {
-        Checked::Refused => Opened::Refused(Refusal::BadOpening),
-        Checked::Accepted => {
+        Err(BadLayout) => Opened::Refused(Refusal::BadOpening),
+        Ok(()) => {
             let n = size as usize;
             resting::clear_marks(marks, n);
             resting::clear_order(order, n * 2);

@@ -3,7 +3,7 @@ ghost use Rattle.heap_slots.specs.Limits.{HasSlots};
 ghost use Rattle.heap.specs.Locating.{Locates, Ranks};
 
 use crate::{Located, Refusal};
-use heap_slots::{FoundSlot, kinds};
+use heap_slots::{Miss, kinds};
 
 // The slot of the object of this kind that a word reaches; else 1, 11 or 2.
 pub fn locate(slots: &[u64], fresh: u64, w: u64, kind: u64) -> Located
@@ -11,10 +11,10 @@ pub fn locate(slots: &[u64], fresh: u64, w: u64, kind: u64) -> Located
     ensures { Locates slots.now fresh w kind result }
 {
     match heap_slots::find(slots, fresh, w) {
-        FoundSlot::Nil => Located::Refused(Refusal::NilTarget),
-        FoundSlot::Dead => Located::Refused(Refusal::DeadReference),
-        FoundSlot::Wrong => Located::Refused(Refusal::OtherKind),
-        FoundSlot::At(i) => {
+        Err(Miss::Nil) => Located::Refused(Refusal::NilTarget),
+        Err(Miss::Dead) => Located::Refused(Refusal::DeadReference),
+        Err(Miss::Wrong) => Located::Refused(Refusal::OtherKind),
+        Ok(i) => {
             let h = heap_slots::read_header(slots, i);
             if h.kind == kind {
                 return Located::At(i);
@@ -30,10 +30,10 @@ pub fn row_at(slots: &[u64], fresh: u64, w: u64) -> u64
     ensures { Ranks slots.now fresh w result }
 {
     match heap_slots::find(slots, fresh, w) {
-        FoundSlot::Nil => kinds::NONE,
-        FoundSlot::Dead => kinds::DEAD,
-        FoundSlot::Wrong => kinds::NONE,
-        FoundSlot::At(i) => {
+        Err(Miss::Nil) => kinds::NONE,
+        Err(Miss::Dead) => kinds::DEAD,
+        Err(Miss::Wrong) => kinds::NONE,
+        Ok(i) => {
             let h = heap_slots::read_header(slots, i);
             h.kind
         }

@@ -7,7 +7,6 @@ ghost use Rattle.heap.specs.Good.{Good, coroutine_of};
 ghost use Rattle.heap.specs.Placing.{PlacesPlain, PlacesRegion, PlainObject, RegionObject, Roomy, Seatable, Seats, flag_of, judged_new};
 
 use crate::{Done, Heap, Made, Reading, Refusal};
-use account::Charged;
 use heap_cells::Top;
 use heap_slots::kinds::{BOX, COROUTINE};
 use heap_slots::{Header, limits};
@@ -16,8 +15,7 @@ use heap_slots::{Header, limits};
 pub fn judge_new(heap: Heap, total: u64, bytes: u64, size: u64) -> Done
     ensures { result ≡ judged_new heap total bytes size }
 {
-    let account = heap.account;
-    if !account.allows(bytes) {
+    if !heap.account.fits(bytes) {
         return Done::Refused(Refusal::OverBudget);
     }
     if heap.free == 0 {
@@ -65,8 +63,7 @@ fn seat(heap: Heap, slots: &mut [u64], list: &[u64], header: Header, bytes: u64)
     requires { Seatable heap slots.old list.now bytes header.size }
     ensures { Seats heap slots.old list.now header bytes result slots.new }
 {
-    let account = heap.account;
-    let Charged::Next(next) = account.charge(bytes) else {
+    let Ok(next) = heap.account.charge(bytes) else {
         return Made {
             heap,
             answer: Reading::Refused(Refusal::OverBudget),

@@ -1,4 +1,5 @@
 -- What comes of a call on one object, by the answer of locate. Assumes nothing.
+use Rattle.std.proofs.Common.{Result, Ok, Err}
 use Prim.Native.Nat.{ℕ, ◌+◌, ◌*◌, ◌≤◌, ◌<◌}
 use mathlib.Core.Path.{◌≡◌, refl, ap, sym, ◌∙◌}
 use mathlib.Core.Bool.{Bool, true, false}
@@ -12,8 +13,8 @@ use Rattle.heap_slots.specs.Header.{header_at}
 use Rattle.heap_slots.specs.Lookup.{Finds, hit_first}
 use Rattle.heap_slots.proofs.LookupLaws.{finds_so}
 use Rattle.heap_slots.specs.declared.Header.{Header}
-use Rattle.heap_slots.specs.declared.FoundSlot.{FoundSlot}
-use Rattle.heap_slots.specs.declared.FoundSlot.TheVariants as F
+use Rattle.heap_slots.specs.declared.Miss.{Miss}
+use Rattle.heap_slots.specs.declared.Miss.TheVariants as F
 use Rattle.history.proofs.Facts.{ltb_no, ltb_yes}
 use Rattle.heap.specs.Locating.{Locates, located_by, located_in, pick}
 use Rattle.heap.specs.declared.Located.{Located}
@@ -57,15 +58,15 @@ picked_here : (b : Bool) {i j : ℕ} → pick b (L.At j) (L.Refused OtherKind) �
 picked_here true x = (refl, (cc))
 picked_here false x = absurd (at-refused (sym x))
 
-here-by : {s : List ℕ} {n w kind i : ℕ} (f : FoundSlot) → Finds s n w f → located_by s kind f ≡ L.At i → Here s n kind i
+here-by : {s : List ℕ} {n w kind i : ℕ} (f : Result ℕ Miss) → Finds s n w f → located_by s kind f ≡ L.At i → Here s n kind i
 unfolding located_by
-here-by {s} {kind = kind} (F.At j) d x =
+here-by {s} {kind = kind} (Ok j) d x =
     let p = picked_here (eqb (header_at s j).kind kind) x in
     let e : (header_at s j).kind ≡ kind = eqb-true _ _ p.0 in
-    record { within = found_within d (ap F.At p.1); kind-is = rw p.1 at e }
-here-by F.Nil d x = absurd (at-refused (sym x))
-here-by F.Dead d x = absurd (at-refused (sym x))
-here-by F.Wrong d x = absurd (at-refused (sym x))
+    record { within = found_within d (ap Ok p.1); kind-is = rw p.1 at e }
+here-by (Err F.Nil) d x = absurd (at-refused (sym x))
+here-by (Err F.Dead) d x = absurd (at-refused (sym x))
+here-by (Err F.Wrong) d x = absurd (at-refused (sym x))
 
 pub located_here : {s : List ℕ} {n w kind i : ℕ} {r : Located} → Locates s n w kind r → r ≡ L.At i → Here s n kind i
 unfolding located_in

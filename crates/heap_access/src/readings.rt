@@ -13,7 +13,7 @@ ghost use Rattle.heap.specs.Promise.{Reads};
 use crate::FrameRead;
 use heap::{Heap, Located, Reading, Refusal, Signed, Test, lookup};
 use heap_slots::limits::SLOT_WORDS;
-use heap_slots::{FRAMES, KEY, PAYLOAD, RESULT, SIGNAL, kinds};
+use heap_slots::{CoroutineScalars, FRAMES, KEY, PAYLOAD, RESULT, SIGNAL, kinds};
 use model::Frame;
 
 // Words of the header of an object of this kind.
@@ -524,7 +524,7 @@ pub fn coroutine_finalized(
     match lookup::locate(slots, heap.fresh, w, kinds::COROUTINE) {
         Located::Refused(q) => Test::Refused(q),
         Located::At(i) => {
-            let x = heap_slots::read_coroutine(scalars, i);
+            let x: CoroutineScalars = heap_slots::read_part(scalars, i);
             Test::Is(x.finalized != 0)
         }
     }
@@ -577,7 +577,7 @@ pub fn read_frame(
     match lookup::locate(slots, heap.fresh, w, kinds::COROUTINE) {
         Located::Refused(q) => FrameRead::Refused(q),
         Located::At(at) => {
-            let x = heap_slots::read_coroutine(scalars, at);
+            let x: CoroutineScalars = heap_slots::read_part(scalars, at);
             if x.frames <= i {
                 return FrameRead::Refused(Refusal::Outside);
             }

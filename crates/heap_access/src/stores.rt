@@ -11,7 +11,7 @@ ghost use Rattle.heap.specs.Promise.{Performs};
 
 use heap::{Done, Heap, Located, Refusal, lookup};
 use heap_slots::limits::SLOT_WORDS;
-use heap_slots::{KEY, PAYLOAD, RESULT, SIGNAL, kinds};
+use heap_slots::{KEY, MODE, PAYLOAD, RESULT, SIGNAL, VALUE, kinds};
 
 // A new value in the header of an object of this kind.
 fn store_value(slots: &mut [u64], fresh: u64, w: u64, kind: u64, v: u64) -> Done
@@ -21,7 +21,7 @@ fn store_value(slots: &mut [u64], fresh: u64, w: u64, kind: u64, v: u64) -> Done
     match lookup::locate(slots, fresh, w, kind) {
         Located::Refused(q) => Done::Refused(q),
         Located::At(i) => {
-            heap_slots::set_value(slots, i, v);
+            heap_slots::set_word::<VALUE>(slots, i, v);
             Done::Accepted
         }
     }
@@ -238,7 +238,7 @@ pub fn set_state(
     match lookup::locate(slots, heap.fresh, w, kinds::COROUTINE) {
         Located::Refused(q) => Done::Refused(q),
         Located::At(i) => {
-            heap_slots::set_mode(slots, i, s);
+            heap_slots::set_word::<MODE>(slots, i, s);
             Done::Accepted
         }
     }
@@ -262,8 +262,7 @@ pub fn store_item(
     match lookup::locate(slots, heap.fresh, w, kinds::ARRAY) {
         Located::Refused(q) => Done::Refused(q),
         Located::At(at) => {
-            let account = heap.account;
-            if !account.allows(0) {
+            if !heap.account.fits(0) {
                 return Done::Refused(Refusal::OverBudget);
             }
             let h = heap_slots::read_header(slots, at);

@@ -42,28 +42,9 @@ use Rattle.heap_allocation.specs.declared.Coroutine.{Coroutine}
 use Rattle.heap_allocation.specs.Coroutines.{Begins, FramesPut, Seated, call_of, coroutine_header, refused_with, scalars_for}
 use Rattle.heap_allocation.specs.Making.{Finishes, Placeable, Prepared, RoomMade, judged_in, placed, with_next}
 use Rattle.heap_allocation.proofs.MakeLaws.{Above, Makes, Means, above_4, makes, next_more, placeable-scalars, ready-cells, ready-scalars, refused-own, region-made, region-refused, within_4}
-use Rattle.heap_allocation.proofs.RegionLaws.{above_copied, saturated-sum}
+use Rattle.heap_allocation.proofs.RegionLaws.{above_copied}
 
--- ---- bytes and cells
-
-pub cells-sum : {size four : ℕ} (words n : ℕ) → size ≡ saturated (words + four) → four ≡ saturated (4 * n) → size ≡ saturated (words + 4 * n)
-cells-sum words n e f = e ∙ ap (λ (b : ℕ). saturated (words + b)) f ∙ saturated-sum words (4 * n)
-
-saturated-first : (a b : ℕ) → saturated (saturated a + b) ≡ saturated (a + b)
-unfolding saturated
-saturated-first a b = omega arith
-
-pub bytes-sum : {bytes base words more : ℕ} (slot weight r frame n : ℕ) → bytes ≡ saturated (words + more) → words ≡ saturated (base + 8 * r) → base ≡ saturated (slot + weight) → more ≡ saturated (frame * n) →
-    bytes ≡ saturated (slot + (weight + 8 * r + frame * n))
-bytes-sum {bytes} {base} {words} {more} slot weight r frame n e f g h =
-    let q : slot + weight + 8 * r + frame * n ≡ slot + (weight + 8 * r + frame * n) = omega arith in
-    e ∙ rw (h, saturated-sum words (frame * n), f, saturated-first (base + 8 * r) (frame * n)) (rw (g) (sums (slot + weight) (8 * r) (frame * n) ∙ ap saturated q))
-  where
-    sums : (a b c : ℕ) → saturated (saturated a + b + c) ≡ saturated (a + b + c)
-    sums a b c =
-        let p : saturated a + b + c ≡ saturated a + (b + c) = omega arith in
-        let q : a + b + c ≡ a + (b + c) = omega arith in
-        rw (p, q) (saturated-first a (b + c))
+-- ---- cells
 
 -- more cells than can be counted are more than there are
 judged-exact : {t : State} (bytes n : ℕ) → Good t → judged_in t bytes (saturated n) ≡ judged_in t bytes n

@@ -13,7 +13,7 @@ use Rattle.words.specs.Word.{bits_of_signed}
 use Rattle.heap_slots.specs.Header.{with_region}
 use Rattle.heap_slots.specs.declared.Header.{Header}
 use Rattle.heap_slots.specs.declared.Scalars.{Scalars}
-use Rattle.words.proofs.Signed64.{signed_bits_lem}
+use Rattle.words.specs.WordLaws.{signed_bits_lem}
 use Rattle.model.specs.Calls as Calls
 use Rattle.model.specs.Calls.{Call, effect, no_room}
 use Rattle.model.specs.Content.{Content, bytes_of, cells_of}

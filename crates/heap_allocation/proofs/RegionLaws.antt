@@ -43,16 +43,6 @@ use Rattle.heap.proofs.DoesLaws.{first_none, first_passes, first_refuses}
 use Rattle.heap_allocation.specs.Making.{Finishes, MadeWords, Prepared, Scalarless, headerOf, made_in, refused_as}
 use Rattle.heap_allocation.proofs.MakeLaws.{Above, Makes, Means, above_4, makes, new-refused, ready-cells, refused-own, region-made, region-refused, weight_of, within_4}
 
--- ---- bytes
-
--- a sum of saturated numbers
-pub saturated-sum : (a b : ℕ) → saturated (a + saturated b) ≡ saturated (a + b)
-unfolding saturated
-saturated-sum a b = omega arith
-
-pub words-bytes : {bytes eight : ℕ} (slot n : ℕ) → bytes ≡ saturated (slot + eight) → eight ≡ saturated (8 * n) → bytes ≡ saturated (slot + 8 * n)
-words-bytes slot n e f = e ∙ ap (λ (b : ℕ). saturated (slot + b)) f ∙ saturated-sum slot (8 * n)
-
 -- ---- what is written above the top
 
 pub above_copied : {ws c c' : List ℕ} {top : ℕ} → Copied ws c c' top → Above c c' top

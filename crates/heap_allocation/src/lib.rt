@@ -17,7 +17,7 @@ ghost use Rattle.heap_allocation.specs.Frames.{copied, put_frame};
 ghost use Rattle.heap_allocation.specs.Making.{Placeable};
 
 use heap::{Done, Heap, Made, Reading, Refusal};
-use heap_slots::{CoroutineScalars, kinds};
+use heap_slots::{CoroutineScalars, Header, Scalars, kinds};
 use model::{Frame, Weights};
 
 pub fn new_integer(
@@ -33,7 +33,11 @@ pub fn new_integer(
     ensures { Performs (Calls.new_integer z) (state heap slots.old scalars.now list.now directory.now cells.now) (made_is result.answer) (state result.heap slots.new scalars.now list.now directory.now cells.now) }
 {
     let weights = heap.weights;
-    let h = heap_slots::fresh_header(kinds::INTEGER, words::bits_of(z), 0, 0, 0);
+    let h = Header {
+        kind: kinds::INTEGER,
+        value: words::bits_of(z),
+        ..Header::EMPTY
+    };
     making::new_plain(
         heap,
         slots,
@@ -66,7 +70,12 @@ pub fn new_cell(
         };
     }
     let weights = heap.weights;
-    let h = heap_slots::fresh_header(kinds::CELL, w, t, 0, 0);
+    let h = Header {
+        kind: kinds::CELL,
+        value: w,
+        mode: t,
+        ..Header::EMPTY
+    };
     making::new_plain(
         heap,
         slots,
@@ -93,7 +102,12 @@ pub fn new_error(
     ensures { Performs (Calls.new_error kind w) (state heap slots.old scalars.now list.now directory.now cells.now) (made_is result.answer) (state result.heap slots.new scalars.now list.now directory.now cells.now) }
 {
     let weights = heap.weights;
-    let h = heap_slots::fresh_header(kinds::ERROR, w, kind as u64, 0, 0);
+    let h = Header {
+        kind: kinds::ERROR,
+        value: w,
+        mode: kind as u64,
+        ..Header::EMPTY
+    };
     making::new_plain(
         heap,
         slots,
@@ -119,7 +133,11 @@ pub fn new_box(
     ensures { Performs (Calls.new_box w) (state heap slots.old scalars.now list.now directory.now cells.now) (made_is result.answer) (state result.heap slots.new scalars.now list.now directory.now cells.now) }
 {
     let weights = heap.weights;
-    let h = heap_slots::fresh_header(kinds::BOX, w, 0, 0, 0);
+    let h = Header {
+        kind: kinds::BOX,
+        value: w,
+        ..Header::EMPTY
+    };
     making::new_plain(
         heap,
         slots,
@@ -242,7 +260,7 @@ pub fn new_string(
 {
     let weights = heap.weights;
     let n = bytes.len() as u64;
-    let weight = account::saturating_add(weights.slot, n);
+    let weight = weights.slot.saturating_add(n);
     let size = n / 8 + (n % 8 + 7) / 8;
     let p = making::prepare(heap, slots, scalars, list, directory, cells, weight, size);
     let roomy = p.heap;
@@ -254,7 +272,12 @@ pub fn new_string(
         },
         Done::Accepted => {
             heap_cells::write_string(bytes, cells, roomy.top as usize);
-            let h = heap_slots::fresh_header(kinds::STRING, 0, 0, n, size);
+            let h = Header {
+                kind: kinds::STRING,
+                len: n,
+                size,
+                ..Header::EMPTY
+            };
             making::finish(roomy, slots, scalars, list, directory, cells, h, weight)
         }
     }
@@ -280,20 +303,19 @@ struct Begun {
     count: usize,
 }
 
+#[tactic(auto, unfolding(account::specs::Account::saturated))]
 fn coroutine_bytes(weights: Weights, registers: u64, frames: u64) -> u64
     ensures { result ≡ saturated (weights.slot + (weights.coroutine + 8 * registers + weights.frame * frames)) }
 {
-    let base = account::saturating_add(weights.slot, weights.coroutine);
-    account::saturating_add(
-        making::word_bytes(base, registers),
-        account::saturating_mul(weights.frame, frames),
-    )
+    let base = weights.slot.saturating_add(weights.coroutine);
+    making::word_bytes(base, registers).saturating_add(weights.frame.saturating_mul(frames))
 }
 
+#[tactic(auto, unfolding(account::specs::Account::saturated))]
 fn coroutine_cells(registers: u64, frames: u64) -> u64
     ensures { result ≡ saturated (registers + 4 * frames) }
 {
-    account::saturating_add(registers, account::saturating_mul(4, frames))
+    registers.saturating_add(frames.saturating_mul(4))
 }
 
 // The coroutine is placed, with its scalars and registers; its frames' cells are as they were.
@@ -313,7 +335,7 @@ fn place_coroutine(
     requires { Placeable (state heap slots.old scalars.old list.now directory.old cells.old) bytes size × (size ≡ length registers.now + 4 * frames) }
     ensures { Seated (state heap slots.old scalars.old list.now directory.old cells.old) k registers.now frames size bytes result.answer (state result.heap slots.new scalars.new list.now directory.new cells.new) }
 {
-    let x = heap_slots::scalars_of_coroutine(CoroutineScalars {
+    let x = Scalars::from(CoroutineScalars {
         finalized: 0,
         payload: k.payload,
         key: k.key,
@@ -324,13 +346,14 @@ fn place_coroutine(
     let i = heap::placing::next_slot(list, heap.fresh, heap.free);
     heap_slots::write_scalars(scalars, i as usize, x);
     heap_cells::copy_words(registers, cells, heap.top as usize);
-    let h = heap_slots::fresh_header(
-        kinds::COROUTINE,
-        k.sequence,
-        k.state,
-        registers.len() as u64,
+    let h = Header {
+        kind: kinds::COROUTINE,
+        value: k.sequence,
+        mode: k.state,
+        len: registers.len() as u64,
         size,
-    );
+        ..Header::EMPTY
+    };
     making::finish(heap, slots, scalars, list, directory, cells, h, bytes)
 }
 

@@ -65,10 +65,11 @@ pub fn new_with_scalars(
 }
 
 // A base weight and eight bytes for each of n words.
+#[tactic(auto, unfolding(account::specs::Account::saturated))]
 pub(crate) fn word_bytes(base: u64, n: u64) -> u64
     ensures { result ≡ saturated (base + 8 * n) }
 {
-    account::saturating_add(base, account::saturating_mul(8, n))
+    base.saturating_add(n.saturating_mul(8))
 }
 
 // 5, 6, 7 judged; an accepted object of `size` cells then has room for them at the top.
@@ -155,7 +156,14 @@ pub(crate) fn new_words(
         },
         Done::Accepted => {
             heap_cells::copy_words(words, cells, roomy.top as usize);
-            let h = heap_slots::fresh_header(kind, value, mode, n, n);
+            let h = Header {
+                kind,
+                value,
+                mode,
+                len: n,
+                size: n,
+                ..Header::EMPTY
+            };
             finish(roomy, slots, scalars, list, directory, cells, h, bytes)
         }
     }
@@ -187,7 +195,13 @@ pub(crate) fn new_items(
         },
         Done::Accepted => {
             heap_cells::fill(cells, roomy.top as usize, n as usize);
-            let h = heap_slots::fresh_header(kinds::ARRAY, 0, t, n, n);
+            let h = Header {
+                kind: kinds::ARRAY,
+                mode: t,
+                len: n,
+                size: n,
+                ..Header::EMPTY
+            };
             finish(roomy, slots, scalars, list, directory, cells, h, bytes)
         }
     }

@@ -13,6 +13,7 @@ ghost use Rattle.heap_bench.specs.Loops.{Collects, Filled, Ran, Summed, arrays, 
 use collections_growth::Perhaps;
 use collector::Collection;
 use heap::{Heap, Reading};
+use layout::ReadLayout;
 
 // The word read or made; 0 for a refusal.
 fn word(a: Reading) -> u64
@@ -463,8 +464,12 @@ pub extern "C" fn heap_bench_collect(
     ensures order_unchanged { order.new ≡ order.old }
 {
     let h = heap_record::load(heap);
+    let read = ReadLayout {
+        bytes: layout,
+        table,
+    };
     let r = collector::collect(
-        h, slots, scalars, list, directory, cells, layout, table, marks, order, roots, places,
+        h, slots, scalars, list, directory, cells, read, marks, order, roots, places,
     );
     let after = r.heap;
     heap_record::save(heap, after);

@@ -1,5 +1,5 @@
 -- Compaction's step keeps its invariant and every slot but for its region's place. Assumes nothing.
-use Prim.Native.Nat.{ℕ, zero, ◌+◌, ◌≤◌, ◌<◌}
+use Prim.Native.Nat.{ℕ, ◌+◌, ◌≤◌, ◌<◌}
 use mathlib.Core.Path.{◌≡◌, refl, ap, sym, ◌∙◌}
 use mathlib.Core.Bool.{Bool, true, false, cond}
 use mathlib.Core.Logic.{◌⊎◌, inl, inr}
@@ -15,7 +15,7 @@ use Rattle.heap_slots.proofs.Cases.{by_cases, same_or_not}
 use Rattle.heap_slots.proofs.HeaderLaws.{header_at-same, header_at-other, length-set_header}
 use Rattle.heap_cells.specs.declared.Top.{Top}
 use Rattle.heap_cells.specs.Moves.{Moved}
-use Rattle.heap_cells.specs.Regions.{RawSlot, raw_of, raw_at, sum_to, sizes_of, packed_size, packed_one, Sited, Packing, Packed, Kept, Laid, Compacted}
+use Rattle.heap_cells.specs.Regions.{Dead, Owned, Owners, RawSlot, raw_of, raw_at, sum_to, sizes_of, packed_size, packed_one, Sited, Packing, Packed, Kept, Laid, Compacted}
 use Rattle.heap_cells.proofs.SumLaws.{sum_ext, sum_zero, sum_le, sum-put, sizes_ext}
 use Rattle.heap_cells.proofs.RawLaws.{part_ext}
 
@@ -43,22 +43,15 @@ kept-kind k j l = ap (λ (r : RawSlot). r.kind) (k.same j l)
 pub kept_sizes : {n : ℕ} {s dir c s' dir' c' : List ℕ} → Kept n s dir c s' dir' c' → sizes_of s' n ≡ sizes_of s n
 kept_sizes {n} {s} {s' = s'} k = sizes_ext s s' n (kept-size k)
 
--- ---- an entry at which no region lies: its owner is no slot, has no cells, or is listed elsewhere
+-- ---- an entry at which no region lies
 
-module _ {n k : ℕ} (s dir : List ℕ) (listed : (j : ℕ) → j < n → ((header_at s j).size ≡ 0 → ⊥) → get_or dir (header_at s j).entry 0 ≡ j) where
-  pub owner : (j : ℕ) → j < n → ((header_at s j).size ≡ 0 → ⊥) → (header_at s j).entry ≡ k → j ≡ get_or dir k 0
-  owner j lj nz e = sym (ap (λ (a : ℕ). get_or dir a 0) (sym e) ∙ listed j lj nz)
+pub owner : {n k : ℕ} {s dir : List ℕ} → Owners n k s dir → (j : ℕ) → j < n → ((header_at s j).size ≡ 0 → ⊥) → (header_at s j).entry ≡ k → j ≡ get_or dir k 0
+owner {dir = dir} g j lj nz e = sym (ap (λ (a : ℕ). get_or dir a 0) (sym e) ∙ g.listed j lj nz)
 
-  pub unlisted_outside : n ≤ get_or dir k 0 → (j : ℕ) → j < n → ((header_at s j).size ≡ 0 → ⊥) → (header_at s j).entry ≡ k → ⊥
-  unlisted_outside out j lj nz e = let q = owner j lj nz e in absurd (omega arith)
+pub packing_owners : {n last k to m : ℕ} {s dir c : List ℕ} → Packing n last k to m s dir c → k < last → Owners n k s dir
+packing_owners g l = record { slots_max = g.slots_max; slots_fit = g.slots_fit; within = omega (arith, g.dir_fits); listed = λ j lj nz. (g.sited j lj nz).listed }
 
-  pub unlisted_empty : {h : Header} → h ≡ header_at s (get_or dir k 0) → h.size ≡ 0 → (j : ℕ) → j < n → ((header_at s j).size ≡ 0 → ⊥) → (header_at s j).entry ≡ k → ⊥
-  unlisted_empty eh z j lj nz e = nz (rw (owner j lj nz e, ← eh) z)
-
-  pub unlisted_else : {h : Header} → h ≡ header_at s (get_or dir k 0) → (h.entry ≡ k → ⊥) → (j : ℕ) → j < n → ((header_at s j).size ≡ 0 → ⊥) → (header_at s j).entry ≡ k → ⊥
-  unlisted_else eh nk j lj nz e = nk (rw (eh, ← owner j lj nz e) e)
-
-skip : {n last k to m : ℕ} {s dir c : List ℕ} → Packing n last k to m s dir c → k < last → ((j : ℕ) → j < n → ((header_at s j).size ≡ 0 → ⊥) → (header_at s j).entry ≡ k → ⊥) → Packed n last (k + 1) to m s dir c s dir c
+pub skip : {n last k to m : ℕ} {s dir c : List ℕ} → Packing n last k to m s dir c → k < last → Dead n k s → Packed n last (k + 1) to m s dir c s dir c
 skip {n} {s = s} {dir = dir} {c = c} g l none =
     record {
       still = record {
@@ -82,23 +75,25 @@ skip {n} {s = s} {dir = dir} {c = c} g l none =
       kept = kept_refl n s dir c;
     }
 
-module _ {n last k to m : ℕ} {s dir c : List ℕ} (g : Packing n last k to m s dir c) (l : k < last) where
-  pub skip_outside : n ≤ get_or dir k 0 → Packed n last (k + 1) to m s dir c s dir c
-  skip_outside out = skip g l (unlisted_outside s dir (λ j lj nz. (g.sited j lj nz).listed) out)
-
-  pub skip_empty : {h : Header} → h ≡ header_at s (get_or dir k 0) → h.size ≡ 0 → Packed n last (k + 1) to m s dir c s dir c
-  skip_empty eh z = skip g l (unlisted_empty s dir (λ j lj nz. (g.sited j lj nz).listed) eh z)
-
-  pub skip_else : {h : Header} → h ≡ header_at s (get_or dir k 0) → (h.entry ≡ k → ⊥) → Packed n last (k + 1) to m s dir c s dir c
-  skip_else eh nk = skip g l (unlisted_else s dir (λ j lj nz. (g.sited j lj nz).listed) eh nk)
-
 cond_same : (b : Bool) → cond {A = ℕ} b 0 0 ≡ 0
 cond_same true = refl
 cond_same false = refl
 
 -- ---- an entry at which its owner's region lies
 
-module _ {n last k to m : ℕ} {s dir c : List ℕ} (g : Packing n last k to m s dir c) (l : k < last) {h : Header} (lo : get_or dir k 0 < n) (eh : h ≡ header_at s (get_or dir k 0)) (nz : h.size ≡ 0 → ⊥) (ek : h.entry ≡ k) where
+module _ {n last k to m : ℕ} {s dir c : List ℕ} (g : Packing n last k to m s dir c) (l : k < last) {i : ℕ} {h : Header} (w : Owned n k s dir i h) where
+  lo : get_or dir k 0 < n
+  lo = rw (← w.slot) w.within
+
+  eh : h ≡ header_at s (get_or dir k 0)
+  eh = w.header ∙ ap (header_at s) w.slot
+
+  nz : h.size ≡ 0 → ⊥
+  nz = w.some
+
+  ek : h.entry ≡ k
+  ek = w.entry
+
   -- compaction has not reached it
   pub above : to ≤ h.start
   above =
@@ -121,7 +116,13 @@ module _ {n last k to m : ℕ} {s dir c : List ℕ} (g : Packing n last k to m s
       let ord : h.start + h.size ≤ (header_at s j).start = rw eh (g.ordered (get_or dir k 0) j lo lj (rw (← eh) nz) zj (rw (← eh) lt)) in
       inr (omega arith, b.1, omega (arith, above)))
 
-  module _ {s' dir' c' : List ℕ} (mv : Moved c c' h.start to h.size) (es : s' ≡ set_header s (get_or dir k 0) (with_region h h.size to m)) (ed : dir' ≡ set dir m (get_or dir k 0)) where
+  module _ {s' dir' c' : List ℕ} (mv : Moved c c' h.start to h.size) (es' : s' ≡ set_header s i (with_region h h.size to m)) (ed' : dir' ≡ set dir m i) where
+    es : s' ≡ set_header s (get_or dir k 0) (with_region h h.size to m)
+    es = es' ∙ ap (λ (a : ℕ). set_header s a (with_region h h.size to m)) w.slot
+
+    ed : dir' ≡ set dir m (get_or dir k 0)
+    ed = ed' ∙ ap (set dir m) w.slot
+
     here : header_at s' (get_or dir k 0) ≡ with_region h h.size to m
     here = ap (λ (q : List ℕ). header_at q (get_or dir k 0)) es ∙ header_at-same s (get_or dir k 0) (with_region h h.size to m) (omega (arith, g.slots_fit))
 

@@ -10,48 +10,41 @@ use Rattle.heap_slots.specs.Header.{header_at, set_header, with_region}
 use Rattle.heap_slots.specs.declared.Header.{Header}
 use Rattle.heap_slots.proofs.Cases.{by_cases, same_or_not, lt_or_le}
 use Rattle.heap_slots.proofs.HeaderLaws.{header_at-same, header_at-other, length-set_header}
-use Rattle.heap_cells.specs.Regions.{Shifted, Shifting}
-use Rattle.heap_cells.proofs.PackLaws.{owner, unlisted_outside, unlisted_empty, unlisted_else}
+use Rattle.heap_cells.specs.Regions.{Dead, Owned, Owners, Shifted, Shifting}
+use Rattle.heap_cells.proofs.PackLaws.{owner}
 
 -- ---- one entry
 
-shift_nobody : {n k by : ℕ} {s : List ℕ} → ((j : ℕ) → j < n → ((header_at s j).size ≡ 0 → ⊥) → (header_at s j).entry ≡ k → ⊥) → Shifted n k (k + 1) by s s
+pub shift_nobody : {n k by : ℕ} {s : List ℕ} → Dead n k s → Shifted n k (k + 1) by s s
 shift_nobody none = record { len = refl; moved = λ j lj nz a b. absurd (none j lj nz (omega arith)); stayed = λ j lj w. refl }
 
-module _ {n k last by : ℕ} {s dir : List ℕ} (g : Shifting n k last by s dir) where
-  pub shift-outside : n ≤ get_or dir k 0 → Shifted n k (k + 1) by s s
-  shift-outside out = shift_nobody (unlisted_outside s dir g.listed out)
+module _ {n k last by : ℕ} {s dir : List ℕ} (g : Shifting n k last by s dir) (l : k < last) where
+  pub shifting_owners : Owners n k s dir
+  shifting_owners = record { slots_max = g.slots_max; slots_fit = g.slots_fit; within = omega (arith, g.dir_fits); listed = g.listed }
 
-  pub shift-empty : {h : Header} → h ≡ header_at s (get_or dir k 0) → h.size ≡ 0 → Shifted n k (k + 1) by s s
-  shift-empty eh z = shift_nobody (unlisted_empty s dir g.listed eh z)
-
-  pub shift_else : {h : Header} → h ≡ header_at s (get_or dir k 0) → (h.entry ≡ k → ⊥) → Shifted n k (k + 1) by s s
-  shift_else eh nk = shift_nobody (unlisted_else s dir g.listed eh nk)
-
-  module _ {h : Header} (lo : get_or dir k 0 < n) (eh : h ≡ header_at s (get_or dir k 0)) (nz : h.size ≡ 0 → ⊥) (ek : h.entry ≡ k) where
+  module _ {o : ℕ} {h : Header} (v : Owned n k s dir o h) where
     pub shift_fits : h.start + by ≤ 2097152
     shift_fits =
-        let q : h.start ≤ CELLS_MAX = rw eh (g.starts_max (get_or dir k 0) lo (rw (← eh) nz) (rw (← eh) (omega arith))) in
+        let q : h.start ≤ CELLS_MAX = rw v.header (g.starts_max o v.within (rw (← v.header) v.some) (rw (← v.header) (omega (arith, v.entry)))) in
         omega (arith, g.by_max)
 
-    pub shift_one : {s' : List ℕ} → s' ≡ set_header s (get_or dir k 0) (with_region h h.size (h.start + by) h.entry) → Shifted n k (k + 1) by s s'
+    pub shift_one : {s' : List ℕ} → s' ≡ set_header s o (with_region h h.size (h.start + by) h.entry) → Shifted n k (k + 1) by s s'
     shift_one {s'} es =
-        let o : ℕ = get_or dir k 0 in
         let new : Header = with_region h h.size (h.start + by) h.entry in
-        let here : header_at s' o ≡ new = ap (λ (q : List ℕ). header_at q o) es ∙ header_at-same s o new (omega (arith, g.slots_fit)) in
+        let here : header_at s' o ≡ new = ap (λ (q : List ℕ). header_at q o) es ∙ header_at-same s o new (omega (arith, g.slots_fit, v.within)) in
         let other : (j : ℕ) → (j ≡ o → ⊥) → header_at s' j ≡ header_at s j = λ j ne. ap (λ (q : List ℕ). header_at q j) es ∙ header_at-other s o j new ne in
         record {
           len = ap length es ∙ length-set_header s o new;
           moved = λ j lj zj a b.
-              (let e : j ≡ o = owner s dir g.listed j lj zj (omega arith) in
-              rw e (here ∙ ap (λ (q : Header). with_region q q.size (q.start + by) q.entry) eh));
+              (let e : j ≡ o = owner shifting_owners j lj zj (omega arith) ∙ sym v.slot in
+              rw e (here ∙ ap (λ (q : Header). with_region q q.size (q.start + by) q.entry) v.header));
           stayed = λ j lj w.
               other j
               (λ e.
-              let q : h ≡ header_at s j = eh ∙ ap (header_at s) (sym e) in
+              let q : h ≡ header_at s j = v.header ∙ ap (header_at s) (sym e) in
               let qs : h.size ≡ (header_at s j).size = ap (λ (a : Header). a.size) q in
               let qe : h.entry ≡ (header_at s j).entry = ap (λ (a : Header). a.entry) q in
-              by_cases w (λ z. nz (qs ∙ z)) (λ v. by_cases v (λ a. absurd (omega arith)) (λ b. absurd (omega arith))));
+              by_cases w (λ z. v.some (qs ∙ z)) (λ u. by_cases u (λ a. absurd (omega (arith, v.entry))) (λ b. absurd (omega (arith, v.entry)))));
         }
 
 -- ---- one after another

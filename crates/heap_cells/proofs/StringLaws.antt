@@ -2,79 +2,75 @@
 use Prim.Native.Nat.{ℕ, zero, suc, ◌+◌, ◌*◌, ◌-◌, ◌/◌, ◌%◌, ◌^◌, ◌≤◌, ◌<◌}
 use mathlib.Core.Path.{◌≡◌, refl, ap, sym, ◌∙◌}
 use mathlib.Core.Logic.{◌⊎◌, inl, inr}
-use mathlib.Core.List.{List, ◌++◌}
+use mathlib.Core.List.{List, [], ◌∷◌, ◌++◌}
 use native.Mathlib.Omega.{arith}
-use native.Mathlib.Nat.{pow-suc, pow-le-pow_right, div-div-eq-div-mul}
-use native.Mathlib.Numerals.{add-one}
-use lib.ListN.{length, get_or, set, take, drop, length-set, length-drop, length-append, get_or-append}
+use lib.ListN.{length, get_or, get_or-replicate, set, take, drop, length-set, length-take, length-drop, length-append, get_or-append}
 use lib.Seq.{get_or-set_same, get_or-set_other, get_or-take, get_or-drop, ext_get_or, get_or-append-add}
+use borrow.Rule.Slice.PartMut.{put_mid}
+use Rattle.std.specs.Int.{w64, to_le_bytes, from_le_bytes}
+use Rattle.std.proofs.Common.{rules}
+use Rattle.std.proofs.lemmas.Nat.{le_bytes_8}
+use Rattle.std.proofs.lemmas.List.{places, get_or_past, get_or-append_right}
 use Rattle.heap_slots.proofs.Cases.{by_cases, same_or_not, lt_or_le}
 use Rattle.heap_cells.specs.Moves.{byte_at, bytes_from, string_bytes, string_cells, Packs, Unpacked, Written}
-use Rattle.heap_cells.proofs.MoveLaws.{Put, put-none, put-more}
 
--- ---- the digits of a cell
+-- ---- a cell of eight bytes
 
--- w / 256 ^ (k + 1), a digit at a time
-pub next-digit : (w k : ℕ) → w / 256 ^ k / 256 ≡ w / 256 ^ (k + 1)
-next-digit w k = div-div-eq-div-mul w (256 ^ k) 256 ∙ ap (λ (p : ℕ). w / p) (sym (pow-suc 256 k) ∙ ap (λ (e : ℕ). 256 ^ e) (sym (add-one k)))
+-- byte k of a word
+digit : (w k : ℕ) → k < 8 → get_or (to_le_bytes w64 w) k 0 ≡ w / 256 ^ k % 256
+digit w zero l = omega arith
+digit w (suc zero) l = refl
+digit w (suc (suc zero)) l = refl
+digit w (suc (suc (suc zero))) l = refl
+digit w (suc (suc (suc (suc zero)))) l = refl
+digit w (suc (suc (suc (suc (suc zero))))) l = refl
+digit w (suc (suc (suc (suc (suc (suc zero)))))) l = refl
+digit w (suc (suc (suc (suc (suc (suc (suc zero))))))) l = refl
+digit w (suc (suc (suc (suc (suc (suc (suc (suc k)))))))) l = absurd (omega arith)
 
--- the digits above the lowest
-higher : (w b k : ℕ) → b < 256 → (w * 256 + b) / 256 ^ suc k ≡ w / 256 ^ k
-higher w b k lb =
-    let q : (w * 256 + b) / 256 ≡ w = omega arith in
-    ap (λ (p : ℕ). (w * 256 + b) / p) (omega (arith, pow-suc 256 k))
-    ∙ sym (div-div-eq-div-mul (w * 256 + b) 256 (256 ^ k))
-    ∙ ap (λ (p : ℕ). p / 256 ^ k) q
+abbrev zeros : List ℕ
+zeros = 0 ∷ 0 ∷ 0 ∷ 0 ∷ 0 ∷ 0 ∷ 0 ∷ 0 ∷ []
 
--- ---- packing
+zero_at : (i : ℕ) → get_or zeros i 0 ≡ 0
+zero_at i = by_cases (lt_or_le i 8) (λ a. get_or-replicate 8 i 0 0 a) (λ b. get_or_past zeros i 0 b)
 
-pub packs_none : (bs : List ℕ) (at w : ℕ) → length bs ≤ at → Packs bs at w
-packs_none bs at w l = record { each = λ k lk h. absurd (omega arith) }
+-- the number of bytes with zeros behind them
+pub packs_padded : (bs : List ℕ) (w : ℕ) → length bs ≤ 8 → ((i : ℕ) → get_or bs i 0 < 256) → w ≡ from_le_bytes w64 (bs ++ drop (length bs) zeros) → Packs bs 0 w
+packs_padded bs w l small e =
+    let eight : List ℕ = bs ++ drop (length bs) zeros in
+    let le : length eight ≡ 8 = simp (length-append, length-drop) (omega arith) in
+    let low : (i : ℕ) → get_or eight i 0 < 256 =
+    λ i.
+    by_cases (lt_or_le i (length bs))
+    (λ a. rw (get_or-append bs (drop (length bs) zeros) 0 i a) (small i))
+    (λ b.
+    let z : get_or eight i 0 ≡ 0 = get_or-append_right bs (drop (length bs) zeros) (length bs) i 0 refl b ∙ get_or-drop (length bs) zeros (i - length bs) 0 ∙ zero_at (length bs + (i - length bs)) in
+    omega arith) in
+    record {
+      each = λ k lk h.
+          let h' : k < length bs = omega arith in
+          let z : 0 + k ≡ k = omega arith in
+          rw z (sym (digit w k lk) ∙ ap (λ (x : List ℕ). get_or x k 0) (le_bytes_8 eight w le low e) ∙ get_or-append bs (drop (length bs) zeros) 0 k h');
+    }
 
--- a byte before those packed
-pub packs_more : {bs : List ℕ} {j w : ℕ} (b : ℕ) → Packs bs j w → 0 < j → b ≡ get_or bs (j - 1) 0 → b < 256 → Packs bs (j - 1) (w * 256 + b)
-packs_more {bs} {j} {w} b p z e lb = record { each = each }
-  where
-    each : (k : ℕ) → k < 8 → j - 1 + k < length bs → (w * 256 + b) / 256 ^ k % 256 ≡ get_or bs (j - 1 + k) 0
-    each zero lk h =
-        let d : (w * 256 + b) / 1 % 256 ≡ b = omega arith in
-        d ∙ e ∙ ap (λ (q : ℕ). get_or bs q 0) (omega arith)
-    each (suc k) lk h =
-        let i : j - 1 + suc k ≡ j + k = omega arith in
-        rw (higher w b k lb, i) (p.each k (omega arith) (omega arith))
+-- the bytes behind the last whole cell
+pub packs_rest : {bs : List ℕ} {at w : ℕ} → Packs (take (length bs - at) (drop at bs)) 0 w → Packs bs at w
+packs_rest {bs} {at} p =
+    record {
+      each = λ k lk h.
+          let m : 0 + k < length (take (length bs - at) (drop at bs)) = simp (length-take, length-drop) (omega arith) in
+          p.each k lk m ∙ get_or-take (length bs - at) (drop at bs) (0 + k) 0 (omega arith) ∙ get_or-drop at bs (0 + k) 0 ∙ ap (λ (q : ℕ). get_or bs (at + q) 0) (omega arith);
+    }
 
--- room for one byte more
-pub packs_small : (w d : ℕ) → w < 256 ^ d → d ≤ 7 → w < 72057594037927936
-packs_small w d h l = let m : 256 ^ d ≤ 256 ^ 7 = pow-le-pow_right (omega arith) l in omega arith
-
-packs_size : (w b d : ℕ) → w < 256 ^ d → b < 256 → w * 256 + b < 256 ^ (d + 1)
-packs_size w b d h l =
-    let e : 256 ^ (d + 1) ≡ 256 ^ d * 256 = ap (λ (k : ℕ). 256 ^ k) (add-one d) ∙ pow-suc 256 d in
-    omega arith
-
-pub packs_zero : (l : ℕ) → 0 < 256 ^ (l - l)
-packs_zero l = let e : l - l ≡ 0 = omega arith in rw e (omega arith)
-
-pub packs_next : (w b l j : ℕ) → w < 256 ^ (l - j) → b < 256 → 0 < j → j ≤ l → w * 256 + b < 256 ^ (l - (j - 1))
-packs_next w b l j h lb z le = let e : l - (j - 1) ≡ l - j + 1 = omega arith in rw e (packs_size w b (l - j) h lb)
-
--- eight bytes, by the two halves of the cell
-pub packs_eight : (bs : List ℕ) (at b0 b1 b2 b3 b4 b5 b6 b7 : ℕ)
-    → (b0 ≡ get_or bs at 0) × (b0 < 256) → (b1 ≡ get_or bs (at + 1) 0) × (b1 < 256) → (b2 ≡ get_or bs (at + 2) 0) × (b2 < 256) → (b3 ≡ get_or bs (at + 3) 0) × (b3 < 256)
-    → (b4 ≡ get_or bs (at + 4) 0) × (b4 < 256) → (b5 ≡ get_or bs (at + 5) 0) × (b5 < 256) → (b6 ≡ get_or bs (at + 6) 0) × (b6 < 256) → (b7 ≡ get_or bs (at + 7) 0) × (b7 < 256)
-    → Packs bs at (b0 + 256 * b1 + 65536 * b2 + 16777216 * b3 + 4294967296 * (b4 + 256 * b5 + 65536 * b6 + 16777216 * b7))
-packs_eight bs at b0 b1 b2 b3 b4 b5 b6 b7 e0 e1 e2 e3 e4 e5 e6 e7 = record { each = each }
-  where
-    each : (k : ℕ) → k < 8 → at + k < length bs → (b0 + 256 * b1 + 65536 * b2 + 16777216 * b3 + 4294967296 * (b4 + 256 * b5 + 65536 * b6 + 16777216 * b7)) / 256 ^ k % 256 ≡ get_or bs (at + k) 0
-    each zero lk h = let d : (b0 + 256 * b1 + 65536 * b2 + 16777216 * b3 + 4294967296 * (b4 + 256 * b5 + 65536 * b6 + 16777216 * b7)) / 1 % 256 ≡ b0 = omega arith in d ∙ e0.0 ∙ ap (λ (q : ℕ). get_or bs q 0) (omega arith)
-    each (suc zero) lk h = let d : (b0 + 256 * b1 + 65536 * b2 + 16777216 * b3 + 4294967296 * (b4 + 256 * b5 + 65536 * b6 + 16777216 * b7)) / 256 % 256 ≡ b1 = omega arith in d ∙ e1.0
-    each (suc (suc zero)) lk h = let d : (b0 + 256 * b1 + 65536 * b2 + 16777216 * b3 + 4294967296 * (b4 + 256 * b5 + 65536 * b6 + 16777216 * b7)) / 65536 % 256 ≡ b2 = omega arith in d ∙ e2.0
-    each (suc (suc (suc zero))) lk h = let d : (b0 + 256 * b1 + 65536 * b2 + 16777216 * b3 + 4294967296 * (b4 + 256 * b5 + 65536 * b6 + 16777216 * b7)) / 16777216 % 256 ≡ b3 = omega arith in d ∙ e3.0
-    each (suc (suc (suc (suc zero)))) lk h = let d : (b0 + 256 * b1 + 65536 * b2 + 16777216 * b3 + 4294967296 * (b4 + 256 * b5 + 65536 * b6 + 16777216 * b7)) / 4294967296 % 256 ≡ b4 = omega arith in d ∙ e4.0
-    each (suc (suc (suc (suc (suc zero))))) lk h = let d : (b0 + 256 * b1 + 65536 * b2 + 16777216 * b3 + 4294967296 * (b4 + 256 * b5 + 65536 * b6 + 16777216 * b7)) / 1099511627776 % 256 ≡ b5 = omega arith in d ∙ e5.0
-    each (suc (suc (suc (suc (suc (suc zero)))))) lk h = let d : (b0 + 256 * b1 + 65536 * b2 + 16777216 * b3 + 4294967296 * (b4 + 256 * b5 + 65536 * b6 + 16777216 * b7)) / 281474976710656 % 256 ≡ b6 = omega arith in d ∙ e6.0
-    each (suc (suc (suc (suc (suc (suc (suc zero))))))) lk h = let d : (b0 + 256 * b1 + 65536 * b2 + 16777216 * b3 + 4294967296 * (b4 + 256 * b5 + 65536 * b6 + 16777216 * b7)) / 72057594037927936 % 256 ≡ b7 = omega arith in d ∙ e7.0
-    each (suc (suc (suc (suc (suc (suc (suc (suc k)))))))) lk h = absurd (omega arith)
+-- the first n bytes of a word stored
+pub unpacked : {w : ℕ} {b ys : List ℕ} {at n : ℕ} → ys ≡ take n (to_le_bytes w64 w) → n ≤ 8 → at + n ≤ length b → Unpacked w b (put_mid at (at + n - at) b ys) at n
+unpacked {w} {b} {ys} {at} {n} e l fits =
+    let ly : length ys ≡ n = rw e (simp length-take (omega arith)) in
+    record {
+      len = search (rules, places);
+      inside = λ k lk. (let h : get_or ys k 0 ≡ w / 256 ^ k % 256 = rw e (get_or-take n (to_le_bytes w64 w) k 0 lk ∙ digit w k (omega arith)) in grind (arith, places));
+      outside = λ q o. grind (arith, places);
+    }
 
 -- ---- the cells of a string, q of them written
 
@@ -185,20 +181,3 @@ read_end {c} {from} {b} {b'} {m} n r e l =
     let j : n + (k - n) ≡ k = omega arith in
     r.outside k (omega arith)
     ∙ sym (ap (λ (a : ℕ). get_or (string_bytes ws n ++ drop n b) a 0) (sym i) ∙ get_or-append-add (string_bytes ws n) (drop n b) (k - n) 0 ∙ get_or-drop n b (k - n) 0 ∙ ap (λ (a : ℕ). get_or b a 0) j)))
-
--- ---- unpacking
-
-pub put_unpacked : {w : ℕ} {b b' : List ℕ} {at n : ℕ} → Put (λ k. w / 256 ^ k % 256) b b' at n → Unpacked w b b' at n
-put_unpacked m = record { len = m.len; inside = m.inside; outside = m.outside }
-
-pub unpack_eight : (w : ℕ) (b : List ℕ) (at : ℕ) → at + 8 ≤ length b
-    → Unpacked w b (set (set (set (set (set (set (set (set b at (w % 256)) (at + 1) (w / 256 % 256)) (at + 2) (w / 65536 % 256)) (at + 3) (w / 16777216 % 256))
-    (at + 4) (w / 4294967296 % 256)) (at + 5) (w / 1099511627776 % 256)) (at + 6) (w / 281474976710656 % 256)) (at + 7) (w / 72057594037927936 % 256)) at 8
-unpack_eight w b at l =
-    let f : ℕ → ℕ = λ k. w / 256 ^ k % 256 in
-    let first : Put f b (set b at (w % 256)) at 1 =
-    (let a : at + 0 ≡ at = omega arith in
-    let v : w % 256 ≡ w / 1 % 256 = omega arith in
-    rw a at (put-more {f = f} {c = b} {c' = b} {to = at} {j = 0} (w % 256) (put-none f b at) (omega arith) v)) in
-    put_unpacked
-    (put-more _ (put-more _ (put-more _ (put-more _ (put-more _ (put-more _ (put-more _ first (omega arith) refl) (omega arith) refl) (omega arith) refl) (omega arith) refl) (omega arith) refl) (omega arith) refl) (omega arith) refl)

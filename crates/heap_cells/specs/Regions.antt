@@ -31,6 +31,27 @@ pub record Laid (n top m : ℕ) (s dir c : List ℕ) : Type 0 where
   pub ordered : (i j : ℕ) → i < n → j < n → ((header_at s i).size ≡ 0 → ⊥) → ((header_at s j).size ≡ 0 → ⊥) → (header_at s i).entry < (header_at s j).entry →
       (header_at s i).start + (header_at s i).size ≤ (header_at s j).start
 
+-- ---- the directory's entries
+
+-- what a lookup at the entry k needs: it is one of the directory's, and regions are listed at their own entries
+pub record Owners (n k : ℕ) (s dir : List ℕ) : Type 0 where
+  pub slots_max : n ≤ SLOTS_MAX
+  pub slots_fit : n * SLOT_WORDS ≤ length s
+  pub within : k < length dir
+  pub listed : (j : ℕ) → j < n → ((header_at s j).size ≡ 0 → ⊥) → get_or dir (header_at s j).entry 0 ≡ j
+
+-- the region of slot i, with header h, is listed there
+pub record Owned (n k : ℕ) (s dir : List ℕ) (i : ℕ) (h : Header) : Type 0 where
+  pub slot : i ≡ get_or dir k 0
+  pub within : i < n
+  pub header : h ≡ header_at s i
+  pub some : h.size ≡ 0 → ⊥
+  pub entry : h.entry ≡ k
+
+-- no region is listed there
+abbrev pub Dead : ℕ → ℕ → List ℕ → Type 0
+Dead n k s = (j : ℕ) → j < n → ((header_at s j).size ≡ 0 → ⊥) → (header_at s j).entry ≡ k → ⊥
+
 -- ---- compaction
 
 -- the size of a slot's region, where it is listed among the first m entries; 1 for such a slot with cells

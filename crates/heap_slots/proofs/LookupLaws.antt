@@ -11,21 +11,22 @@ use borrow.Author.Tests.{ltb-true, eqb-true, eqb-false, ne_eqb, eq-eqb, le-leb, 
 use Rattle.words.specs.Word.{by_kind, decode_word, low_raw, int_base, ref_slot, ref_tag}
 use Rattle.words.specs.WordLaws.{decode_int_range, decode_float_range, decode_ref_range, decode_low_range}
 use Rattle.words.specs.declared.Raw.TheVariants as R
-use Rattle.heap_slots.specs.declared.FoundSlot.{FoundSlot}
-use Rattle.heap_slots.specs.declared.FoundSlot.TheVariants.{At, Dead, Nil, Wrong}
+use Rattle.std.proofs.Common.{Result, Ok, Err}
+use Rattle.heap_slots.specs.declared.Miss.{Miss}
+use Rattle.heap_slots.specs.declared.Miss.TheVariants.{Dead, Nil, Wrong}
 use Rattle.heap_slots.specs.Header.{header_at, set_header}
 use Rattle.heap_slots.specs.declared.Header.{Header}
-use Rattle.heap_slots.specs.Lookup.{pick, missed, miss_number, found_number, hit_first, hits, reached_in, found_by, Finds, Halves}
+use Rattle.heap_slots.specs.Lookup.{missed, miss_number, found_number, hit_first, hits, reached_in, found_by, Finds, Halves}
 use Rattle.heap_slots.proofs.Cases.{by_cases, lt_or_le, same_or_not}
 use Rattle.heap_slots.proofs.HeaderLaws.{header_at-same, header_at-other}
 
 -- ---- the numbers
 
-number-missed : (u : ℕ) → found_number (missed u) ≡ miss_number u
+number-missed : (u : ℕ) → found_number (Err (missed u)) ≡ miss_number u
 unfolding missed miss_number found_number
 number-missed u = go (leb 131072 u) (leb 65536 u) (eqb u 1) (eqb u 2)
   where
-    go : (a r b c : Bool) → found_number (pick a Wrong (pick r Dead (pick b Wrong (pick c Wrong Nil)))) ≡ cond a 2 (cond r 11 (cond (b || c) 2 1))
+    go : (a r b c : Bool) → found_number (Err (cond a Wrong (cond r Dead (cond b Wrong (cond c Wrong Nil))))) ≡ cond a 2 (cond r 11 (cond (b || c) 2 1))
     go true r b c = refl
     go false true b c = refl
     go false false true c = refl
@@ -36,21 +37,21 @@ number-first : (s : List ℕ) (n w : ℕ) → found_number (hit_first s n w) ≡
 unfolding hit_first hits found_number
 number-first s n w = go (ltb (w % 4294967296) n) (eqb (get_or s (w % 4294967296 * 8) 0) (w / 4294967296)) (eqb (get_or s (w % 4294967296 * 8 + 1) 0) 0)
   where
-    m : found_number (missed (w / 4294967296)) ≡ miss_number (w / 4294967296)
+    m : found_number (Err (missed (w / 4294967296))) ≡ miss_number (w / 4294967296)
     m = number-missed (w / 4294967296)
 
-    go : (a b c : Bool) → found_number (pick a (pick b (pick c (missed (w / 4294967296)) (At (w % 4294967296))) (missed (w / 4294967296))) (missed (w / 4294967296))) ≡ cond (a && (b && not c)) 0 (miss_number (w / 4294967296))
+    go : (a b c : Bool) → found_number (cond a (cond b (cond c (Err (missed (w / 4294967296))) (Ok (w % 4294967296))) (Err (missed (w / 4294967296)))) (Err (missed (w / 4294967296)))) ≡ cond (a && (b && not c)) 0 (miss_number (w / 4294967296))
     go true true true = m
     go true true false = refl
     go true false c = m
     go false b c = m
 
-pub finds_so : {s : List ℕ} {n w : ℕ} {f : FoundSlot} → f ≡ hit_first s n w → Finds s n w f
+pub finds_so : {s : List ℕ} {n w : ℕ} {f : Result ℕ Miss} → f ≡ hit_first s n w → Finds s n w f
 finds_so {s} {n} {w} e = record { is = e; number = ap found_number e ∙ number-first s n w }
 
 -- ---- the order
 
-no_hit : (c d e : Bool) (m f : FoundSlot) → (c ≡ true → d ≡ true → e ≡ false → ⊥) → pick c (pick d (pick e m f) m) m ≡ m
+no_hit : (c d e : Bool) (m f : Result ℕ Miss) → (c ≡ true → d ≡ true → e ≡ false → ⊥) → cond c (cond d (cond e m f) m) m ≡ m
 no_hit true true true m f z = refl
 no_hit true true false m f z = absurd (z refl refl refl)
 no_hit true false e m f z = refl
@@ -65,14 +66,14 @@ half_range {s} {n} hs u i p q r =
     let k : get_or s (i * 8 + 1) 0 ≡ 0 → ⊥ = eqb-false _ _ r in
     (omega (arith, hs.low i l k), omega (arith, hs.high i l k))
 
-low-found : (a b : Bool) (t : Bool) (k : ℕ) (f : ℕ → ℕ → FoundSlot) → by_kind Nil (λ b. Wrong) (λ z. Wrong) (λ x. Wrong) (λ k. Wrong) f (cond a (R.Bool t) (cond b (R.Char k) R.Nil)) ≡ pick a Wrong (pick b Wrong Nil)
+low-found : (a b : Bool) (t : Bool) (k : ℕ) (f : ℕ → ℕ → Result ℕ Miss) → by_kind (Err Nil) (λ b. Err Wrong) (λ z. Err Wrong) (λ x. Err Wrong) (λ k. Err Wrong) f (cond a (R.Bool t) (cond b (R.Char k) R.Nil)) ≡ Err (cond a Wrong (cond b Wrong Nil))
 low-found true b t k f = refl
 low-found false true t k f = refl
 low-found false false t k f = refl
 
 module _ {s : List ℕ} {n : ℕ} (hs : Halves s n) (w : ℕ) where
   -- outside the references nothing is reached
-  missing : (w / 4294967296 < 65536) ⊎ (131072 ≤ w / 4294967296) → hit_first s n w ≡ missed (w / 4294967296)
+  missing : (w / 4294967296 < 65536) ⊎ (131072 ≤ w / 4294967296) → hit_first s n w ≡ Err (missed (w / 4294967296))
   unfolding hit_first
   missing o =
       no_hit (ltb (w % 4294967296) n) (eqb (get_or s (w % 4294967296 * 8) 0) (w / 4294967296)) (eqb (get_or s (w % 4294967296 * 8 + 1) 0) 0) _ _
@@ -122,76 +123,40 @@ pub record FoundNone (s : List ℕ) (n w : ℕ) : Type 0 where
   pub tag : ref_tag w < 65536
   pub none : ref_slot w < n → ((header_at s (ref_slot w)).kind ≡ 0 → ⊥) → (header_at s (ref_slot w)).half ≡ 65536 + ref_tag w → ⊥
 
-wrong_at : {i : ℕ} → Wrong ≡ At i → ⊥
-wrong_at e = let z : ◌≡◌ {A = ℕ} 0 1 = cc in absurd (omega arith)
+hit-at : (a b c : Bool) (m : Miss) (j i : ℕ) → cond a (cond b (cond c (Err m) (Ok j)) (Err m)) (Err m) ≡ Ok i → (a ≡ true) × (b ≡ true) × (c ≡ false) × (j ≡ i)
+hit-at true true true m j i e = cc
+hit-at true true false m j i e = (refl, refl, refl, (cc))
+hit-at true false c m j i e = cc
+hit-at false b c m j i e = cc
 
-nil-at : {i : ℕ} → Nil ≡ At i → ⊥
-nil-at e = let z : ◌≡◌ {A = ℕ} 0 1 = cc in absurd (omega arith)
-
-dead-at : {i : ℕ} → Dead ≡ At i → ⊥
-dead-at e = let z : ◌≡◌ {A = ℕ} 0 1 = cc in absurd (omega arith)
-
-wrong_nil : Wrong ≡ Nil → ⊥
-wrong_nil e = let z : ◌≡◌ {A = ℕ} 0 1 = cc in absurd (omega arith)
-
-wrong_dead : Wrong ≡ Dead → ⊥
-wrong_dead e = let z : ◌≡◌ {A = ℕ} 0 1 = cc in absurd (omega arith)
-
-dead-nil : Dead ≡ Nil → ⊥
-dead-nil e = let z : ◌≡◌ {A = ℕ} 0 1 = cc in absurd (omega arith)
-
--- what is missed is not found
-pub missed-at : (u : ℕ) {i : ℕ} → missed u ≡ At i → ⊥
-unfolding missed
-missed-at u {i} = go (leb 131072 u) (leb 65536 u) (eqb u 1) (eqb u 2)
-  where
-    go : (a r b c : Bool) → pick a Wrong (pick r Dead (pick b Wrong (pick c Wrong Nil))) ≡ At i → ⊥
-    go true r b c e = wrong_at e
-    go false true b c e = dead-at e
-    go false false true c e = wrong_at e
-    go false false false true e = wrong_at e
-    go false false false false e = nil-at e
-
-hit-at : (a b c : Bool) (m : FoundSlot) (j i : ℕ) → (m ≡ At i → ⊥) → pick a (pick b (pick c m (At j)) m) m ≡ At i → (a ≡ true) × (b ≡ true) × (c ≡ false) × (j ≡ i)
-hit-at true true true m j i z e = absurd (z e)
-hit-at true true false m j i z e = (refl, refl, refl, (cc))
-hit-at true false c m j i z e = absurd (z e)
-hit-at false b c m j i z e = absurd (z e)
-
-low-nil : (a b t : Bool) (k : ℕ) → pick a Wrong (pick b Wrong Nil) ≡ Nil → cond a (R.Bool t) (cond b (R.Char k) R.Nil) ≡ R.Nil
-low-nil true b t k e = absurd (wrong_nil e)
-low-nil false true t k e = absurd (wrong_nil e)
+low-nil : (a b t : Bool) (k : ℕ) → ◌≡◌ {A = Result ℕ Miss} (Err (cond a Wrong (cond b Wrong Nil))) (Err Nil) → cond a (R.Bool t) (cond b (R.Char k) R.Nil) ≡ R.Nil
+low-nil true b t k e = cc
+low-nil false true t k e = cc
 low-nil false false t k e = refl
 
-low-dead : (a b : Bool) → pick a Wrong (pick b Wrong Nil) ≡ Dead → ⊥
-low-dead true b e = wrong_dead e
-low-dead false true e = wrong_dead e
-low-dead false false e = dead-nil (sym e)
+low-dead : (a b : Bool) → ◌≡◌ {A = Result ℕ Miss} (Err (cond a Wrong (cond b Wrong Nil))) (Err Dead) → ⊥
+low-dead true b e = cc
+low-dead false true e = cc
+low-dead false false e = cc
 
-low_wrong : {X : Type 0} (nil other : X) (ref : ℕ → ℕ → X) (a b t : Bool) (k : ℕ) → pick a Wrong (pick b Wrong Nil) ≡ Wrong → by_kind nil (λ b. other) (λ z. other) (λ x. other) (λ k. other) ref (cond a (R.Bool t) (cond b (R.Char k) R.Nil)) ≡ other
+low_wrong : {X : Type 0} (nil other : X) (ref : ℕ → ℕ → X) (a b t : Bool) (k : ℕ) → ◌≡◌ {A = Result ℕ Miss} (Err (cond a Wrong (cond b Wrong Nil))) (Err Wrong) → by_kind nil (λ b. other) (λ z. other) (λ x. other) (λ k. other) ref (cond a (R.Bool t) (cond b (R.Char k) R.Nil)) ≡ other
 low_wrong nil other ref true b t k e = refl
 low_wrong nil other ref false true t k e = refl
-low_wrong nil other ref false false t k e = absurd (wrong_nil (sym e))
+low_wrong nil other ref false false t k e = cc
 
-not_wrong : (a b c : Bool) (j : ℕ) → pick a (pick b (pick c Dead (At j)) Dead) Dead ≡ Wrong → ⊥
-not_wrong true true true j e = wrong_dead (sym e)
-not_wrong true true false j e = wrong_at (sym e)
-not_wrong true false c j e = wrong_dead (sym e)
-not_wrong false b c j e = wrong_dead (sym e)
+-- a reference is dead or found
+not_other : (a b c : Bool) (j : ℕ) (m : Miss) → (Dead ≡ m → ⊥) → cond a (cond b (cond c (Err Dead) (Ok j)) (Err Dead)) (Err Dead) ≡ Err m → ⊥
+not_other true true true j m ne e = ne (cc)
+not_other true true false j m ne e = cc
+not_other true false c j m ne e = ne (cc)
+not_other false b c j m ne e = ne (cc)
 
-not_nil : (a b c : Bool) (j : ℕ) → pick a (pick b (pick c Dead (At j)) Dead) Dead ≡ Nil → ⊥
-not_nil true true true j e = dead-nil e
-not_nil true true false j e = nil-at (sym e)
-not_nil true false c j e = dead-nil e
-not_nil false b c j e = dead-nil e
-
-module _ {s : List ℕ} {n w : ℕ} {f : FoundSlot} (hs : Halves s n) (fd : Finds s n w f) where
-  pub found_at : {i : ℕ} → f ≡ At i → FoundAt s n w i
+module _ {s : List ℕ} {n w : ℕ} {f : Result ℕ Miss} (hs : Halves s n) (fd : Finds s n w f) where
+  pub found_at : {i : ℕ} → f ≡ Ok i → FoundAt s n w i
   unfolding hit_first missed header_at
   found_at {i} e' =
       let e = sym fd.is ∙ e' in
-      let h = hit-at (ltb (w % 4294967296) n) (eqb (get_or s (w % 4294967296 * 8) 0) (w / 4294967296)) (eqb (get_or s (w % 4294967296 * 8 + 1) 0) 0) (missed (w / 4294967296)) (w % 4294967296) i
-      (missed-at (w / 4294967296)) e in
+      let h = hit-at (ltb (w % 4294967296) n) (eqb (get_or s (w % 4294967296 * 8) 0) (w / 4294967296)) (eqb (get_or s (w % 4294967296 * 8 + 1) 0) 0) (missed (w / 4294967296)) (w % 4294967296) i e in
       let r = half_range hs (w / 4294967296) (w % 4294967296) h.0 h.1 h.2 in
       let l : w % 4294967296 < n = ltb-true _ _ h.0 in
       let k : get_or s (w % 4294967296 * 8 + 1) 0 ≡ 0 → ⊥ = eqb-false _ _ h.2 in
@@ -205,7 +170,7 @@ module _ {s : List ℕ} {n w : ℕ} {f : FoundSlot} (hs : Halves s n) (fd : Find
         reads = decode_ref_range w (omega arith) (omega arith);
       })
 
-  pub found-nil : f ≡ Nil → decode_word w ≡ R.Nil
+  pub found-nil : f ≡ Err Nil → decode_word w ≡ R.Nil
   unfolding missed low_raw hit_first
   found-nil e' =
       let e = sym fd.is ∙ e' in
@@ -218,11 +183,11 @@ module _ {s : List ℕ} {n w : ℕ} {f : FoundSlot} (hs : Halves s n) (fd : Find
       by_cases (lt_or_le (w / 4294967296) 131072)
       (λ hi.
       absurd
-      (not_nil (ltb (w % 4294967296) n) (eqb (get_or s (w % 4294967296 * 8) 0) (w / 4294967296)) (eqb (get_or s (w % 4294967296 * 8 + 1) 0) 0) (w % 4294967296)
+      (not_other (ltb (w % 4294967296) n) (eqb (get_or s (w % 4294967296 * 8) 0) (w / 4294967296)) (eqb (get_or s (w % 4294967296 * 8 + 1) 0) 0) (w % 4294967296) _ (λ z. cc)
       (simp (lt-leb 131072 (w / 4294967296) hi, le-leb 65536 (w / 4294967296) lo) at e)))
-      (λ hi. absurd (wrong_nil (simp (le-leb 131072 (w / 4294967296) hi) at (sym (missing hs w (inr hi)) ∙ e)))))
+      (λ hi. let z = simp (le-leb 131072 (w / 4294967296) hi) at (sym (missing hs w (inr hi)) ∙ e) in cc))
 
-  pub found-dead : f ≡ Dead → FoundNone s n w
+  pub found-dead : f ≡ Err Dead → FoundNone s n w
   unfolding missed low_raw hit_first header_at
   found-dead e' =
       let e = sym fd.is ∙ e' in
@@ -240,12 +205,12 @@ module _ {s : List ℕ} {n w : ℕ} {f : FoundSlot} (hs : Halves s n) (fd : Find
         none = λ l k h.
             (let u : get_or s (w % 4294967296 * 8) 0 ≡ w / 4294967296 = omega arith in
             let q = simp (lt-ltb (w % 4294967296) n l, eq-eqb (get_or s (w % 4294967296 * 8) 0) (w / 4294967296) u, ne_eqb (get_or s (w % 4294967296 * 8 + 1) 0) 0 k) at e in
-            dead-at (sym q));
+            cc);
       })
-      (λ hi. absurd (wrong_dead (simp (le-leb 131072 (w / 4294967296) hi) at (sym (missing hs w (inr hi)) ∙ e)))))
+      (λ hi. absurd (let z = simp (le-leb 131072 (w / 4294967296) hi) at (sym (missing hs w (inr hi)) ∙ e) in cc)))
 
   -- neither nil nor a reference: as document 01's order by kinds has it
-  pub found_wrong : {X : Type 0} (nil other : X) (ref : ℕ → ℕ → X) → f ≡ Wrong → by_kind nil (λ b. other) (λ z. other) (λ x. other) (λ k. other) ref (decode_word w) ≡ other
+  pub found_wrong : {X : Type 0} (nil other : X) (ref : ℕ → ℕ → X) → f ≡ Err Wrong → by_kind nil (λ b. other) (λ z. other) (λ x. other) (λ k. other) ref (decode_word w) ≡ other
   unfolding missed low_raw hit_first
   found_wrong nil other ref e' =
       let e = sym fd.is ∙ e' in
@@ -258,7 +223,7 @@ module _ {s : List ℕ} {n w : ℕ} {f : FoundSlot} (hs : Halves s n) (fd : Find
       by_cases (lt_or_le (w / 4294967296) 131072)
       (λ hi.
       absurd
-      (not_wrong (ltb (w % 4294967296) n) (eqb (get_or s (w % 4294967296 * 8) 0) (w / 4294967296)) (eqb (get_or s (w % 4294967296 * 8 + 1) 0) 0) (w % 4294967296)
+      (not_other (ltb (w % 4294967296) n) (eqb (get_or s (w % 4294967296 * 8) 0) (w / 4294967296)) (eqb (get_or s (w % 4294967296 * 8 + 1) 0) 0) (w % 4294967296) _ (λ z. cc)
       (simp (lt-leb 131072 (w / 4294967296) hi, le-leb 65536 (w / 4294967296) lo) at e)))
       (λ hi.
       by_cases (lt_or_le w int_base)

@@ -1,4 +1,5 @@
-// The rows of document 01's table of kinds. A slot without an object has the row NONE.
+// The rows of document 01's table of kinds. A slot without an object has the row NONE. They are
+// numbers and no enum: a kind is a word of a lent slot, compared as it lies there.
 pub const NONE: u64 = 0;
 
 pub const STRING: u64 = 1;

@@ -6,8 +6,8 @@
 pub mod kinds;
 pub mod limits;
 
-ghost use Rattle.std.specs.Prelude.{◌≡◌, ◌+◌, ◌*◌, ◌≤◌, length, set};
-ghost use Rattle.heap_slots.specs.Header.{emptied_header, fresh_header, header_at, set_header};
+ghost use Rattle.std.specs.Prelude.{◌≡◌, ◌+◌, ◌*◌, ◌≤◌, ◌<◌, length, set};
+ghost use Rattle.heap_slots.specs.Header.{emptied_header, header_at, set_header};
 ghost use Rattle.heap_slots.specs.Scalars.{coroutine_part, iterator_part, map_part, scalars_at, scalars_of_coroutine, scalars_of_iterator, scalars_of_map, set_scalars};
 ghost use Rattle.heap_slots.specs.Lookup.{Finds, missed};
 ghost use Rattle.heap_slots.specs.FreeList.{Listed, Takes};
@@ -29,6 +29,32 @@ pub struct Header {
     pub size: u64,
     pub start: u64,
     pub entry: u64,
+}
+
+impl Header {
+    // What a new object's header is made from; half, start and entry come with the placing.
+    pub const EMPTY: Header = Header {
+        half: 0,
+        kind: kinds::NONE,
+        value: 0,
+        mode: 0,
+        len: 0,
+        size: 0,
+        start: 0,
+        entry: 0,
+    };
+
+    // The header of a slot without its object. The other words stay, so that they need not be stored.
+    pub fn emptied(self, half: u64) -> Header
+        ensures { result ≡ emptied_header self half }
+    {
+        Header {
+            half,
+            kind: kinds::NONE,
+            size: 0,
+            ..self
+        }
+    }
 }
 
 // What a map, an iterator or a coroutine keeps beside its header.
@@ -58,6 +84,40 @@ pub struct MapScalars {
     pub live: u64,
 }
 
+impl From<Scalars> for MapScalars {
+    ghost from_gives = { λ x k. k ≡ map_part x };
+
+    fn from(x: Scalars) -> Self {
+        MapScalars {
+            keys: x.a,
+            values: x.b,
+            hashed: x.c,
+            known: x.d,
+            noted: x.e,
+            next: x.f,
+            epoch: x.g,
+            live: x.h,
+        }
+    }
+}
+
+impl From<MapScalars> for Scalars {
+    ghost from_gives = { λ k x. x ≡ scalars_of_map k };
+
+    fn from(k: MapScalars) -> Self {
+        Scalars {
+            a: k.keys,
+            b: k.values,
+            c: k.hashed,
+            d: k.known,
+            e: k.noted,
+            f: k.next,
+            g: k.epoch,
+            h: k.live,
+        }
+    }
+}
+
 // An iterator's: whether it has ended; whether it stands at a key, and the key; of its cursor whether
 // it has stepped, the last sequence number, the position and the epoch.
 #[derive(Clone, Copy)]
@@ -71,6 +131,39 @@ pub struct IteratorScalars {
     pub epoch: u64,
 }
 
+impl From<Scalars> for IteratorScalars {
+    ghost from_gives = { λ x k. k ≡ iterator_part x };
+
+    fn from(x: Scalars) -> Self {
+        IteratorScalars {
+            ended: x.a,
+            keyed: x.b,
+            key: x.c,
+            stepped: x.d,
+            last: x.e,
+            position: x.f,
+            epoch: x.g,
+        }
+    }
+}
+
+impl From<IteratorScalars> for Scalars {
+    ghost from_gives = { λ k x. x ≡ scalars_of_iterator k };
+
+    fn from(k: IteratorScalars) -> Self {
+        Scalars {
+            a: k.ended,
+            b: k.keyed,
+            c: k.key,
+            d: k.stepped,
+            e: k.last,
+            f: k.position,
+            g: k.epoch,
+            h: 0,
+        }
+    }
+}
+
 // A coroutine's: whether it is finalized, its four words, the number of its frames.
 #[derive(Clone, Copy)]
 pub struct CoroutineScalars {
@@ -81,6 +174,45 @@ pub struct CoroutineScalars {
     pub signal: u64,
     pub frames: u64,
 }
+
+impl From<Scalars> for CoroutineScalars {
+    ghost from_gives = { λ x k. k ≡ coroutine_part x };
+
+    fn from(x: Scalars) -> Self {
+        CoroutineScalars {
+            finalized: x.a,
+            payload: x.b,
+            key: x.c,
+            result: x.d,
+            signal: x.e,
+            frames: x.f,
+        }
+    }
+}
+
+impl From<CoroutineScalars> for Scalars {
+    ghost from_gives = { λ k x. x ≡ scalars_of_coroutine k };
+
+    fn from(k: CoroutineScalars) -> Self {
+        Scalars {
+            a: k.finalized,
+            b: k.payload,
+            c: k.key,
+            d: k.result,
+            e: k.signal,
+            f: k.frames,
+            g: 0,
+            h: 0,
+        }
+    }
+}
+
+// Where a kind's own words stand in a header.
+pub const VALUE: usize = 2;
+
+pub const MODE: usize = 3;
+
+pub const LEN: usize = 4;
 
 // Where a coroutine's words stand among its scalars.
 pub const PAYLOAD: usize = 1;
@@ -93,11 +225,10 @@ pub const SIGNAL: usize = 4;
 
 pub const FRAMES: usize = 5;
 
-// At: the slot of the object that a word reaches. Dead: a reference that reaches nothing.
-// Wrong: neither nil nor a reference.
-#[derive(Clone, Copy)]
-pub enum FoundSlot {
-    At(usize),
+// Why a word reaches no object. Dead: a reference that reaches nothing. Wrong: neither nil nor a
+// reference.
+#[derive(Clone, Copy, PartialEq, Eq, Debug)]
+pub enum Miss {
     Nil,
     Dead,
     Wrong,
@@ -112,33 +243,7 @@ pub struct TakenSlot {
     pub free: u64,
 }
 
-// A header for the placing, which gives half, start and entry.
-pub fn fresh_header(kind: u64, value: u64, mode: u64, len: u64, size: u64) -> Header
-    ensures { result ≡ fresh_header kind value mode len size }
-{
-    Header {
-        half: 0,
-        kind,
-        value,
-        mode,
-        len,
-        size,
-        start: 0,
-        entry: 0,
-    }
-}
-
-// The header of a slot without an object. The other words stay, so that they need not be stored.
-pub fn emptied(h: Header, half: u64) -> Header
-    ensures { result ≡ emptied_header h half }
-{
-    let mut new = h;
-    new.half = half;
-    new.kind = kinds::NONE;
-    new.size = 0;
-    new
-}
-
+#[tactic(auto, unfolding(crate::specs::Header::header_at))]
 pub fn read_header(slots: &[u64], i: usize) -> Header
     requires { HasSlot slots.now i }
     ensures { result ≡ header_at slots.now i }
@@ -156,6 +261,7 @@ pub fn read_header(slots: &[u64], i: usize) -> Header
     }
 }
 
+#[tactic(auto, unfolding(crate::specs::Header::set_header))]
 pub fn write_header(slots: &mut [u64], i: usize, h: Header)
     requires { HasSlot slots.old i }
     ensures { slots.new ≡ set_header slots.old i h }
@@ -171,27 +277,16 @@ pub fn write_header(slots: &mut [u64], i: usize, h: Header)
     slots[p + 7] = h.entry;
 }
 
-pub fn set_value(slots: &mut [u64], i: usize, v: u64)
-    requires { HasSlot slots.old i }
-    ensures { slots.new ≡ set slots.old (i * SLOT_WORDS + 2) v }
+// Word K of slot i's header.
+pub fn set_word<const K: usize>(slots: &mut [u64], i: usize, v: u64)
+    requires fits { HasSlot slots.old i }
+    requires word { K < SLOT_WORDS }
+    ensures { slots.new ≡ set slots.old (i * SLOT_WORDS + K) v }
 {
-    slots[i * SLOT_WORDS + 2] = v;
+    slots[i * SLOT_WORDS + K] = v;
 }
 
-pub fn set_mode(slots: &mut [u64], i: usize, v: u64)
-    requires { HasSlot slots.old i }
-    ensures { slots.new ≡ set slots.old (i * SLOT_WORDS + 3) v }
-{
-    slots[i * SLOT_WORDS + 3] = v;
-}
-
-pub fn set_len(slots: &mut [u64], i: usize, v: u64)
-    requires { HasSlot slots.old i }
-    ensures { slots.new ≡ set slots.old (i * SLOT_WORDS + 4) v }
-{
-    slots[i * SLOT_WORDS + 4] = v;
-}
-
+#[tactic(auto, unfolding(crate::specs::Scalars::scalars_at))]
 pub fn read_scalars(scalars: &[u64], i: usize) -> Scalars
     requires { HasSlot scalars.now i }
     ensures { result ≡ scalars_at scalars.now i }
@@ -209,6 +304,7 @@ pub fn read_scalars(scalars: &[u64], i: usize) -> Scalars
     }
 }
 
+#[tactic(auto, unfolding(crate::specs::Scalars::set_scalars))]
 pub fn write_scalars(scalars: &mut [u64], i: usize, x: Scalars)
     requires { HasSlot scalars.old i }
     ensures { scalars.new ≡ set_scalars scalars.old i x }
@@ -224,160 +320,65 @@ pub fn write_scalars(scalars: &mut [u64], i: usize, x: Scalars)
     scalars[p + 7] = x.h;
 }
 
-pub fn read_map(scalars: &[u64], i: usize) -> MapScalars
+// What slot i keeps beside its header, as its kind reads it.
+pub fn read_part<K: From<Scalars>>(scalars: &[u64], i: usize) -> K
     requires { HasSlot scalars.now i }
-    ensures { result ≡ map_part (scalars_at scalars.now i) }
+    ensures { K.from_gives (scalars_at scalars.now i) result }
 {
-    let x = read_scalars(scalars, i);
-    MapScalars {
-        keys: x.a,
-        values: x.b,
-        hashed: x.c,
-        known: x.d,
-        noted: x.e,
-        next: x.f,
-        epoch: x.g,
-        live: x.h,
-    }
-}
-
-pub fn scalars_of_map(k: MapScalars) -> Scalars
-    ensures { result ≡ scalars_of_map k }
-{
-    Scalars {
-        a: k.keys,
-        b: k.values,
-        c: k.hashed,
-        d: k.known,
-        e: k.noted,
-        f: k.next,
-        g: k.epoch,
-        h: k.live,
-    }
-}
-
-pub fn read_iterator(scalars: &[u64], i: usize) -> IteratorScalars
-    requires { HasSlot scalars.now i }
-    ensures { result ≡ iterator_part (scalars_at scalars.now i) }
-{
-    let x = read_scalars(scalars, i);
-    IteratorScalars {
-        ended: x.a,
-        keyed: x.b,
-        key: x.c,
-        stepped: x.d,
-        last: x.e,
-        position: x.f,
-        epoch: x.g,
-    }
-}
-
-pub fn scalars_of_iterator(k: IteratorScalars) -> Scalars
-    ensures { result ≡ scalars_of_iterator k }
-{
-    Scalars {
-        a: k.ended,
-        b: k.keyed,
-        c: k.key,
-        d: k.stepped,
-        e: k.last,
-        f: k.position,
-        g: k.epoch,
-        h: 0,
-    }
-}
-
-pub fn read_coroutine(scalars: &[u64], i: usize) -> CoroutineScalars
-    requires { HasSlot scalars.now i }
-    ensures { result ≡ coroutine_part (scalars_at scalars.now i) }
-{
-    let x = read_scalars(scalars, i);
-    CoroutineScalars {
-        finalized: x.a,
-        payload: x.b,
-        key: x.c,
-        result: x.d,
-        signal: x.e,
-        frames: x.f,
-    }
-}
-
-pub fn scalars_of_coroutine(k: CoroutineScalars) -> Scalars
-    ensures { result ≡ scalars_of_coroutine k }
-{
-    Scalars {
-        a: k.finalized,
-        b: k.payload,
-        c: k.key,
-        d: k.result,
-        e: k.signal,
-        f: k.frames,
-        g: 0,
-        h: 0,
-    }
+    K::from(read_scalars(scalars, i))
 }
 
 // What a word whose upper half is u is, where it reaches no object.
-fn miss(u: u64) -> FoundSlot
+#[tactic(auto, using(std::proofs::lemmas::Bool::Decides::nat_tests), unfolding(crate::specs::Lookup::missed))]
+fn missed(u: u64) -> Miss
     ensures { result ≡ missed u }
 {
-    if HALF_END <= u {
-        return FoundSlot::Wrong;
+    match u {
+        1 | 2 | HALF_END.. => Miss::Wrong,
+        HALF..HALF_END => Miss::Dead,
+        _ => Miss::Nil,
     }
-    if HALF <= u {
-        return FoundSlot::Dead;
-    }
-    if u == 1 {
-        return FoundSlot::Wrong;
-    }
-    if u == 2 {
-        return FoundSlot::Wrong;
-    }
-    FoundSlot::Nil
 }
 
 // The slot that a word reaches, among the first `fresh`: the hit is tested first.
-pub fn find(slots: &[u64], fresh: u64, w: u64) -> FoundSlot
+pub fn find(slots: &[u64], fresh: u64, w: u64) -> Result<usize, Miss>
     requires { HasSlots slots.now fresh }
     ensures { Finds slots.now fresh w result }
 {
     let upper = w / SPAN;
     let i = w % SPAN;
-    if fresh <= i {
-        return miss(upper);
-    }
     let at = i as usize;
     let p = at * SLOT_WORDS;
-    if slots[p] != upper {
-        return miss(upper);
+    if i < fresh && slots[p] == upper && slots[p + 1] != kinds::NONE {
+        Ok(at)
+    } else {
+        Err(missed(upper))
     }
-    if slots[p + 1] == kinds::NONE {
-        return miss(upper);
-    }
-    FoundSlot::At(at)
 }
 
 // The slot for a new object: the free list's top, else the next that was never used. flag:
 // BOX_FLAG for a box, else 0.
+#[tactic(auto, using(std::proofs::lemmas::Bool::Decides::nat_tests), unfolding(crate::specs::FreeList::taken_slot, crate::specs::FreeList::taken_half, crate::specs::Header::header_at))]
 pub fn take_slot(slots: &[u64], list: &[u64], fresh: u64, free: u64, flag: u64) -> TakenSlot
     requires { (fresh ≤ SLOTS_MAX) × (fresh * SLOT_WORDS ≤ length slots.now) × (free ≤ length list.now) × (flag ≤ BOX_FLAG) × Listed slots.now list.now fresh free }
     ensures { Takes slots.now list.now fresh free flag result }
 {
     if free == 0 {
-        return TakenSlot {
+        TakenSlot {
             slot: fresh,
             half: HALF + flag,
             fresh: fresh + 1,
             free: 0,
-        };
-    }
-    let last = (free - 1) as usize;
-    let i = list[last];
-    let p = (i as usize) * SLOT_WORDS;
-    TakenSlot {
-        slot: i,
-        half: slots[p] + flag,
-        fresh: fresh,
-        free: free - 1,
+        }
+    } else {
+        let last = (free - 1) as usize;
+        let i = list[last];
+        let p = i as usize * SLOT_WORDS;
+        TakenSlot {
+            slot: i,
+            half: slots[p] + flag,
+            fresh,
+            free: free - 1,
+        }
     }
 }

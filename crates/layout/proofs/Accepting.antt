@@ -9,7 +9,6 @@ use lib.ListN.{length, get_or, length-set}
 use borrow.Author.Tests.{lt-ltb, eqb-true, eqb-false, ne_eqb}
 use Rattle.layout.specs.Layout.{Layout, Reading, no_function, at_last, with_struct, with_field, with_function, with_register, with_capture, when, command, byte, proceed, reading, parse, u16}
 use Rattle.layout.specs.Sections.{is_given, is_layout, operand_bytes}
-use Rattle.layout.specs.Check.{allowed_by, section_of, counted_by}
 
 -- ---- tests
 
@@ -27,13 +26,30 @@ by-command X x0 x1 x2 x3 x4 x5 more b =
 
 -- ---- the check
 
+-- a command, in a section begun by `under`, after s types and f functions; `left` bytes follow it, the first of which is `first`
+unfoldable pub allowed_by : ℕ → ℕ → ℕ → ℕ → ℕ → ℕ → Bool
+allowed_by b under s f left first =
+    cond (eqb b 1) (ltb s 256)
+    (cond (eqb b 2) (eqb under 1 && leb 2 left)
+    (cond (eqb b 3) (ltb f 256)
+    (cond (eqb b 4) (eqb under 3 && leb 2 left)
+    (cond (eqb b 5) (eqb under 3 && (leb 1 left && leb first 2))
+    false))))
+
+-- the command that begins the section in which b stands
+unfoldable pub begun_by : ℕ → ℕ
+begun_by b = cond (leb b 2) 1 3
+
+unfoldable pub counted_by : ℕ → ℕ → ℕ → ℕ
+counted_by n b c = cond (eqb b c) (suc n) n
+
 -- `skip`: operand bytes to pass over first; s types and f functions are there already
 unfoldable pub runs : ℕ → ℕ → ℕ → ℕ → List ℕ → Bool
 runs skip under s f [] = false
 runs (suc skip) under s f (b ∷ bs) = runs skip under s f bs
 runs zero under s f (b ∷ bs) =
     cond (eqb b 0) (eqb (length bs) 0)
-    (allowed_by b under s f (length bs) (get_or bs 0 0) && runs (operand_bytes b) (section_of b) (counted_by s b 1) (counted_by f b 3) bs)
+    (allowed_by b under s f (length bs) (get_or bs 0 0) && runs (operand_bytes b) (begun_by b) (counted_by s b 1) (counted_by f b 3) bs)
 
 abbrev pub at : Layout → ℕ → ℕ → Reading
 at l under skip = record { layout = l; under = under; operands = skip; ended = false }
@@ -69,31 +85,31 @@ module _ (bs : List ℕ) (go : Runs bs) (l : Layout) (u : ℕ) where
   agree_0 = ended-runs l bs
 
   agree_1 : Agree l u bs 1
-  unfolding Agree Runs runs reading byte proceed command operand_bytes section_of counted_by allowed_by with_struct
+  unfolding Agree Runs runs reading byte proceed command operand_bytes begun_by counted_by allowed_by with_struct
   agree_1 =
       when-runs (ltb (length l.structs) 256) _ (with_struct l) 1 0 bs
       (go (with_struct l) 1 0 ∙ rw (length_snoc l.structs []))
 
   agree_2 : Agree l u bs 2
-  unfolding Agree Runs runs reading byte proceed command operand_bytes section_of counted_by allowed_by with_field
+  unfolding Agree Runs runs reading byte proceed command operand_bytes begun_by counted_by allowed_by with_field
   agree_2 =
       when-runs (eqb u 1 && leb 2 (length bs)) _ (with_field (u16 bs) l) 1 2 bs
       (go (with_field (u16 bs) l) 1 2 ∙ rw (length-at-last [] (λ ns. ns ++ (u16 bs ∷ [])) l.structs))
 
   agree_3 : Agree l u bs 3
-  unfolding Agree Runs runs reading byte proceed command operand_bytes section_of counted_by allowed_by with_function
+  unfolding Agree Runs runs reading byte proceed command operand_bytes begun_by counted_by allowed_by with_function
   agree_3 =
       when-runs (ltb (length l.functions) 256) _ (with_function l) 3 0 bs
       (go (with_function l) 3 0 ∙ rw (length_snoc l.functions no_function))
 
   agree_4 : Agree l u bs 4
-  unfolding Agree Runs runs reading byte proceed command operand_bytes section_of counted_by allowed_by with_register
+  unfolding Agree Runs runs reading byte proceed command operand_bytes begun_by counted_by allowed_by with_register
   agree_4 =
       when-runs (eqb u 3 && leb 2 (length bs)) _ (with_register (u16 bs) l) 3 2 bs
       (go (with_register (u16 bs) l) 3 2 ∙ ap (λ n. runs 2 3 (length l.structs) n bs) (length-at-last no_function _ l.functions))
 
   agree_5 : Agree l u bs 5
-  unfolding Agree Runs runs reading byte proceed command operand_bytes section_of counted_by allowed_by with_capture
+  unfolding Agree Runs runs reading byte proceed command operand_bytes begun_by counted_by allowed_by with_capture
   agree_5 =
       when-runs (eqb u 3 && (leb 1 (length bs) && leb (get_or bs 0 0) 2)) _ (with_capture (get_or bs 0 0) l) 3 1 bs
       (go (with_capture (get_or bs 0 0) l) 3 1 ∙ ap (λ n. runs 1 3 (length l.structs) n bs) (length-at-last no_function _ l.functions))

@@ -2,17 +2,20 @@
 use mathlib.Core.Path.{◌≡◌, refl, sym, ◌∙◌, ap, subst}
 use Prim.Native.Nat.{ℕ, zero, suc, ◌+◌, ◌≤◌, ◌<◌}
 use native.Mathlib.Omega.{arith}
-use native.Mathlib.Nat.{add-zero, zero-add}
+use native.Mathlib.Nat.{add-zero}
 use mathlib.Core.Bool.{Bool, true, false}
 use mathlib.Core.List.{List, [], ◌∷◌, map}
 use mathlib.Core.Option.{Option, none, some}
 use lib.Dec.{eqb, leb}
 use lib.ListN.{length, get_or, set, length-set, length-map, get_or-map, get_or-eq_default}
 use lib.Seq.{drop-length, sets, length-sets, get_or-set_same, get_or-set_other}
-use borrow.Author.Tests.{le-leb}
+use borrow.Author.Tests.{le-leb, lt-leb}
+use Rattle.std.proofs.Math.Bool.{and-false}
 use Rattle.layout.specs.Layout.{Layout, Function, no_function, at_last, parse, fields_of}
-use Rattle.layout.specs.Sections.{is_given, or_empty, is_layout, layout_of, operand_bytes, cons_if, starts_from, starts, section_at, listed, fields_from, SectionStarts, Tabled, table_of, readable, table_after, LayoutRead, StructSection, FunctionSection}
-use Rattle.layout.specs.declared.Checked.TheVariants.{Accepted, Refused}
+use Rattle.layout.specs.Sections.{is_given, or_empty, is_layout, layout_of, operand_bytes, cons_if, starts_from, starts, section_at, listed, fields_from, SectionStarts, Tabled, table_of, readable, table_after, LayoutRead, StructSection, FunctionSection, SectionAt, begin_of, base_of, count_of}
+use Rattle.layout.specs.declared.Section.{Section}
+use Rattle.layout.specs.declared.Section.TheVariants as Kind
+use Rattle.std.specs.Prelude.{Ok, Err}
 use Rattle.layout.proofs.Accepting.{by_test}
 use Rattle.layout.proofs.Parsed.{Sections, parsed, add_fields, add_lists, function_at}
 
@@ -187,7 +190,7 @@ unreadable : (bs t : List ℕ) → readable bs t ≡ false → 514 ≤ length t 
 unreadable bs t e room = by_test (is_layout bs) (λ h. let f : true ≡ false = rw (h, le-leb 514 (length t) room) at e in let z : ◌≡◌ {A = ℕ} 0 1 = cc in absurd (omega arith)) (λ h. h)
 
 module _ (bs t : List ℕ) where
-  pub read_accepted : is_layout bs ≡ true → 514 ≤ length t → LayoutRead bs t (table_of bs t) Accepted
+  pub read_accepted : is_layout bs ≡ true → 514 ≤ length t → LayoutRead bs t (table_of bs t) (Ok tt)
   unfolding table_after
   read_accepted h room =
       let r : leb 514 (length t) ≡ true = le-leb 514 (length t) room in
@@ -200,7 +203,7 @@ module _ (bs t : List ℕ) where
         past = table-past bs t h room;
       }
 
-  pub read_refused : readable bs t ≡ false → LayoutRead bs t t Refused
+  read_refused : readable bs t ≡ false → LayoutRead bs t t (Err record {})
   unfolding table_after
   read_refused e =
       record {
@@ -211,6 +214,12 @@ module _ (bs t : List ℕ) where
         len = refl;
         past = λ i p. refl;
       }
+
+  pub read_short : length t < 514 → LayoutRead bs t t (Err record {})
+  read_short h = read_refused (rw (lt-leb 514 (length t) h) (and-false (is_layout bs)))
+
+  pub read_bad : is_layout bs ≡ false → LayoutRead bs t t (Err record {})
+  read_bad h = read_refused (rw h)
 
 -- ---- what a table of the layout says of a number
 
@@ -228,27 +237,33 @@ module _ (bs t : List ℕ) (c base place : ℕ) (s : SectionStarts bs t c base p
   unknown-place : get_or t place 0 ≤ n → length bs ≡ section_at c bs n
   unknown-place h = sym (get_or-eq_default (starts c bs) (length bs) (omega (arith, s.count)))
 
-module _ (bs t : List ℕ) (g : Tabled bs t) (n : ℕ) where
-  struct_from : (p : ℕ) → p ≡ section_at 1 bs n → StructSection bs n p
-  struct_from p e = subst (StructSection bs n) (sym e) (struct_section bs (tabled-layout bs t g) n)
+pub starts_most : (k : Section) (bs : List ℕ) → is_layout bs ≡ true → length (starts (begin_of k) bs) ≤ 256
+starts_most Kind.Struct bs h = structs_most bs h
+starts_most Kind.Function bs h = functions_most bs h
 
-  function_from : (p : ℕ) → p ≡ section_at 3 bs n → FunctionSection bs n p
-  function_from p e = subst (FunctionSection bs n) (sym e) (function_section bs (tabled-layout bs t g) n)
+section_there : (k : Section) (bs : List ℕ) → is_layout bs ≡ true → (n : ℕ) → SectionAt k bs n (section_at (begin_of k) bs n)
+section_there Kind.Struct bs h n = struct_section bs h n
+section_there Kind.Function bs h n = function_section bs h n
 
-  pub struct-inside : n < get_or t 512 0 → n < 256
-  struct-inside h = omega (arith, g.structs.count, structs_most bs (tabled-layout bs t g))
+starts_there : (k : Section) (bs t : List ℕ) → Tabled bs t → SectionStarts bs t (begin_of k) (base_of k) (count_of k)
+starts_there Kind.Struct bs t g = g.structs
+starts_there Kind.Function bs t g = g.functions
 
-  pub struct_known : n < get_or t 512 0 → StructSection bs n (get_or t n 0)
-  struct_known h = struct_from (get_or t n 0) (rw (zero-add n) at (known_place bs t 1 0 512 g.structs n h))
+pub base_most : (k : Section) → base_of k ≤ 256
+base_most Kind.Struct = omega arith
+base_most Kind.Function = omega arith
 
-  pub struct-unknown : get_or t 512 0 ≤ n → StructSection bs n (length bs)
-  struct-unknown h = struct_from (length bs) (unknown-place bs t 1 0 512 g.structs n h)
+module _ (bs t : List ℕ) (g : Tabled bs t) (k : Section) (n : ℕ) where
+  section_from : (p : ℕ) → p ≡ section_at (begin_of k) bs n → SectionAt k bs n p
+  section_from p e = subst (SectionAt k bs n) (sym e) (section_there k bs (tabled-layout bs t g) n)
 
-  pub function-inside : n < get_or t 513 0 → n < 256
-  function-inside h = omega (arith, g.functions.count, functions_most bs (tabled-layout bs t g))
+  pub section-inside : n < get_or t (count_of k) 0 → base_of k + n < 512
+  section-inside h =
+      let s = starts_there k bs t g in
+      omega (arith, s.count, starts_most k bs (tabled-layout bs t g), base_most k)
 
-  pub function_known : n < get_or t 513 0 → FunctionSection bs n (get_or t (256 + n) 0)
-  function_known h = function_from (get_or t (256 + n) 0) (known_place bs t 3 256 513 g.functions n h)
+  pub section_known : n < get_or t (count_of k) 0 → SectionAt k bs n (get_or t (base_of k + n) 0)
+  section_known h = section_from (get_or t (base_of k + n) 0) (known_place bs t (begin_of k) (base_of k) (count_of k) (starts_there k bs t g) n h)
 
-  pub function-unknown : get_or t 513 0 ≤ n → FunctionSection bs n (length bs)
-  function-unknown h = function_from (length bs) (unknown-place bs t 3 256 513 g.functions n h)
+  pub section-unknown : get_or t (count_of k) 0 ≤ n → SectionAt k bs n (length bs)
+  section-unknown h = section_from (length bs) (unknown-place bs t (begin_of k) (base_of k) (count_of k) (starts_there k bs t g) n h)

@@ -1,28 +1,35 @@
--- What the check of a layout's bytes asks of one command. Assumes nothing.
-use Rattle.std.specs.Prelude.{◌≡◌, ℕ, suc, ◌+◌, ◌*◌, ◌<◌, Bool, false, cond, ◌&&◌, List, eqb, leb, ltb, get_or}
+-- What reading one command of a layout's bytes gives. Assumes nothing.
+use Rattle.std.specs.Prelude.{◌≡◌, ℕ, ◌/◌, ◌%◌, ◌<◌, ◌≤◌, Bool, true, leb, List, [], ◌∷◌, ◌++◌, length, get_or, Option, Some, None}
+use Rattle.std.specs.Borrow.{Bor}
+use Rattle.layout.specs.Sections.{operand_bytes, begin_of}
+use Rattle.layout.specs.declared.Entry.{Entry}
+use Rattle.layout.specs.declared.Entry.TheVariants.{Field, Register, Capture}
+use Rattle.layout.specs.declared.Command.{Command}
+use Rattle.layout.specs.declared.Command.TheVariants.{End, Begins, Lists}
 
--- the byte at a place, 0 past the end
-pub record ByteAt (bs : List ℕ) (at r : ℕ) : Type 0 where
-  pub is : r ≡ get_or bs at 0
-  pub small : r < 256
+-- the lower byte first
+abbrev pub u16_bytes : ℕ → List ℕ
+u16_bytes n = n % 256 ∷ n / 256 ∷ []
 
--- a command, in a section begun by `under`, after s types and f functions; `left` bytes follow it, the first of which is `first`
-unfoldable pub allowed_by : ℕ → ℕ → ℕ → ℕ → ℕ → ℕ → Bool
-allowed_by b under s f left first =
-    cond (eqb b 1) (ltb s 256)
-    (cond (eqb b 2) (eqb under 1 && leb 2 left)
-    (cond (eqb b 3) (ltb f 256)
-    (cond (eqb b 4) (eqb under 3 && leb 2 left)
-    (cond (eqb b 5) (eqb under 3 && (leb 1 left && leb first 2))
-    false))))
+-- a command as bytes
+abbrev pub bytes_of : Command → List ℕ
+bytes_of End = 0 ∷ []
+bytes_of (Begins k) = begin_of k ∷ []
+bytes_of (Lists Field n) = 2 ∷ u16_bytes n
+bytes_of (Lists Register n) = 4 ∷ u16_bytes n
+bytes_of (Lists Capture n) = 5 ∷ n ∷ []
 
--- the command that begins the section in which b stands
-unfoldable pub section_of : ℕ → ℕ
-section_of b = cond (leb b 2) 1 3
+-- no command: the first byte is none, or its operand is cut short
+abbrev pub Unread : List ℕ → Type 0
+Unread bs = 0 < length bs → get_or bs 0 0 < 6 → length bs ≤ operand_bytes (get_or bs 0 0)
 
-unfoldable pub counted_by : ℕ → ℕ → ℕ → ℕ
-counted_by n b c = cond (eqb b c) (suc n) n
+-- the first command, and what stands after it
+abbrev pub Reads : List ℕ → Option (Command × Bor (List ℕ)) → Type 0
+Reads bs None = Unread bs
+Reads bs (Some read) = bs ≡ bytes_of read.0 ++ read.1.now
 
--- the operand of a command b, at a place
-unfoldable pub operand_at : ℕ → List ℕ → ℕ → ℕ
-operand_at b bs at = cond (eqb b 5) (get_or bs at 0) (get_or bs at 0 + 256 * get_or bs (at + 1) 0)
+-- whether the number may be listed as such an entry
+abbrev pub takes : Entry → ℕ → Bool
+takes Field n = true
+takes Register n = true
+takes Capture n = leb n 2

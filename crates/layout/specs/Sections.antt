@@ -1,23 +1,25 @@
 -- Where a layout's sections stand in its bytes (document 01, "Layout"): the table of their starts, and what a section lists from a position on.
 -- Assumes nothing.
-use Rattle.std.specs.Prelude.{◌≡◌, ℕ, zero, suc, ◌+◌, ◌≤◌, ◌<◌, Bool, true, false, cond, ◌&&◌, ◌||◌, List, [], ◌∷◌, eqb, leb, length, get_or, set, drop}
-use Rattle.std.proofs.Math.Option.{Option, none, some}
+use Rattle.std.specs.Prelude.{◌≡◌, ℕ, zero, suc, ◌+◌, ◌≤◌, ◌<◌, Bool, true, false, cond, ◌&&◌, ◌||◌, List, [], ◌∷◌, eqb, leb, length, get_or, set, drop, Option, Some, None, Result, Ok, Err, IsOk, IsErr}
+use Rattle.std.proofs.Math.Option as Parse
 use Rattle.std.proofs.lemmas.List.Edits.{sets}
 use Rattle.layout.specs.Layout.{Layout, u16, parse, fields_of, registers_of, captures_of}
-use Rattle.layout.specs.declared.Checked.{Checked}
-use Rattle.layout.specs.declared.Checked.TheVariants.{Accepted, Refused}
+use Rattle.layout.specs.declared.BadLayout.{BadLayout}
+use Rattle.layout.specs.declared.Section.{Section}
+use Rattle.layout.specs.declared.Section.TheVariants as Kind
+use Rattle.layout.specs.declared.Entry.{Entry}
+use Rattle.layout.specs.declared.Entry.TheVariants.{Field, Register, Capture}
 use Rattle.layout.specs.declared.Listed.{Listed}
-use Rattle.layout.specs.declared.Listed.TheVariants.{Number, End}
 
 -- ---- the layout that bytes give
 
-abbrev pub is_given : Option Layout → Bool
-is_given none = false
-is_given (some l) = true
+abbrev pub is_given : Parse.Option Layout → Bool
+is_given Parse.none = false
+is_given (Parse.some l) = true
 
-abbrev pub or_empty : Option Layout → Layout
-or_empty none = record { structs = []; functions = [] }
-or_empty (some l) = l
+abbrev pub or_empty : Parse.Option Layout → Layout
+or_empty Parse.none = record { structs = []; functions = [] }
+or_empty (Parse.some l) = l
 
 unfoldable pub is_layout : List ℕ → Bool
 is_layout bs = is_given (parse bs)
@@ -83,9 +85,37 @@ pub record OneMore (c : ℕ) (bs : List ℕ) (at n next : ℕ) : Type 0 where
   pub within : next ≤ length bs
   pub small : n < 65536
 
-abbrev pub Continues : ℕ → List ℕ → ℕ → Listed → Type 0
-Continues c bs at (Number n next) = OneMore c bs at n next
-Continues c bs at End = listed_from c bs at ≡ []
+abbrev pub Continues : ℕ → List ℕ → ℕ → Option Listed → Type 0
+Continues c bs at (Some l) = OneMore c bs at l.number l.next
+Continues c bs at None = listed_from c bs at ≡ []
+
+-- the command whose numbers an entry is
+abbrev pub lister_of : Entry → ℕ
+lister_of Field = 2
+lister_of Register = 4
+lister_of Capture = 5
+
+-- ---- the kinds of sections
+
+-- the command that begins one
+abbrev pub begin_of : Section → ℕ
+begin_of Kind.Struct = 1
+begin_of Kind.Function = 3
+
+-- the word of the table from which on their starts stand, and the word of their number
+abbrev pub base_of : Section → ℕ
+base_of Kind.Struct = 0
+base_of Kind.Function = 256
+
+abbrev pub count_of : Section → ℕ
+count_of Kind.Struct = 512
+count_of Kind.Function = 513
+
+-- the kind of section that lists an entry
+abbrev pub section_of : Entry → Section
+section_of Field = Kind.Struct
+section_of Register = Kind.Function
+section_of Capture = Kind.Function
 
 -- ---- the table of the layout that the bytes give: words 0 to 255 the starts of struct types, 256 to 511 of functions, 512 and 513 how many there are of each
 
@@ -95,7 +125,7 @@ pub record SectionStarts (bs t : List ℕ) (c base place : ℕ) : Type 0 where
   pub at : (n : ℕ) → n < length (starts c bs) → get_or t (base + n) 0 ≡ get_or (starts c bs) n 0
 
 pub record Tabled (bs t : List ℕ) : Type 0 where
-  pub parsed : parse bs ≡ some (layout_of bs)
+  pub parsed : parse bs ≡ Parse.some (layout_of bs)
   pub room : 514 ≤ length t
   pub structs : SectionStarts bs t 1 0 512
   pub functions : SectionStarts bs t 3 256 513
@@ -111,18 +141,18 @@ abbrev pub readable : List ℕ → List ℕ → Bool
 readable bs t = is_layout bs && leb 514 (length t)
 
 -- document 01's number of each case ("Who can be turned back")
-abbrev pub opening_number : Checked → ℕ
-opening_number Accepted = 0
-opening_number Refused = 10
+abbrev pub opening_number : Result Unit BadLayout → ℕ
+opening_number (Ok u) = 0
+opening_number (Err e) = 10
 
 unfoldable pub table_after : List ℕ → List ℕ → List ℕ
 table_after bs t = cond (readable bs t) (table_of bs t) t
 
-pub record LayoutRead (bs t t' : List ℕ) (r : Checked) : Type 0 where
+pub record LayoutRead (bs t t' : List ℕ) (r : Result Unit BadLayout) : Type 0 where
   pub number : opening_number r ≡ cond (readable bs t) 0 10
   pub table : t' ≡ table_after bs t
-  pub tabled : r ≡ Accepted → Tabled bs t'
-  pub refused : r ≡ Refused → 514 ≤ length t → parse bs ≡ none
+  pub tabled : IsOk r → Tabled bs t'
+  pub refused : IsErr r → 514 ≤ length t → parse bs ≡ Parse.none
   pub len : length t' ≡ length t
   pub past : (i : ℕ) → 514 ≤ i → get_or t' i 0 ≡ get_or t i 0
 
@@ -138,3 +168,7 @@ pub record FunctionSection (bs : List ℕ) (n at : ℕ) : Type 0 where
   pub within : at ≤ length bs
   pub registers : registers_from bs at ≡ registers_of (layout_of bs) n
   pub captures : captures_from bs at ≡ captures_of (layout_of bs) n
+
+abbrev pub SectionAt : Section → List ℕ → ℕ → ℕ → Type 0
+SectionAt Kind.Struct bs n at = StructSection bs n at
+SectionAt Kind.Function bs n at = FunctionSection bs n at

@@ -4,252 +4,236 @@
 // functions, 512 and 513 how many there are of each.
 #![tactic(auto)]
 
-ghost use Rattle.std.specs.Prelude.{◌≡◌, true, ◌+◌, ◌≤◌, ◌<◌, length, get_or};
+ghost use Rattle.std.specs.Prelude.{◌≡◌, true, ◌+◌, ◌<◌, ◌≤◌, ◌++◌, length, MatchOption};
 ghost use Rattle.std.proofs.lemmas.List.Edits.{sets};
-ghost use Rattle.layout.specs.Sections.{is_layout, operand_bytes, starts, belongs, Continues, Tabled, LayoutRead, StructSection, FunctionSection};
-ghost use Rattle.layout.specs.Check.{ByteAt, allowed_by, section_of, counted_by, operand_at};
-
-#[derive(Clone, Copy)]
-pub enum Checked {
-    Accepted,
-    Refused,
-}
-
-// A number that a section lists, and where to go on; or the section's end.
-#[derive(Clone, Copy)]
-pub enum Listed {
-    Number(u64, usize),
-    End,
-}
+ghost use Rattle.layout.specs.Sections.{is_layout, starts, begin_of, base_of, count_of, section_of, Tabled, LayoutRead};
+ghost use Rattle.layout.specs.Check.{u16_bytes, Reads, takes};
 
 const TABLE: usize = 514;
 
-const FUNCTIONS: usize = 256;
+// As many struct types, and as many functions, at most.
+const MOST: usize = 256;
 
-fn byte_at(bytes: &[u8], at: usize) -> u64
-    ensures { ByteAt bytes.now at result }
-{
-    if at < bytes.len() {
-        bytes[at] as u64
-    } else {
-        0
-    }
+// The bytes are no layout, or the table has fewer than 514 words.
+#[derive(Clone, Copy, Debug, PartialEq, Eq)]
+pub struct BadLayout;
+
+// What a section describes.
+#[derive(Clone, Copy, Debug, PartialEq, Eq)]
+pub enum Section {
+    Struct,
+    Function,
 }
 
-// How many operand bytes a command has.
-fn operand_bytes(command: u64) -> usize
-    ensures { result ≡ operand_bytes command }
-{
-    if command == 2 {
-        return 2;
-    }
-    if command == 4 {
-        return 2;
-    }
-    if command == 5 {
-        return 1;
-    }
-    0
+// What a section lists: a struct type's fields; a function's registers, its captures.
+#[derive(Clone, Copy, Debug, PartialEq, Eq)]
+pub enum Entry {
+    Field,
+    Register,
+    Capture,
 }
 
-// The command that began the section in which this one stands.
-fn section_of(command: u64) -> u64
-    ensures { result ≡ section_of command }
-{
-    if command <= 2 { 1 } else { 3 }
+// A number that a section lists, and where to go on.
+#[derive(Clone, Copy, Debug, PartialEq, Eq)]
+pub struct Listed {
+    pub number: u64,
+    pub next: usize,
 }
 
-fn counted(count: u64, command: u64, begins: u64) -> u64
-    requires { count ≤ 256 }
-    ensures { result ≡ counted_by count command begins }
-{
-    if command == begins { count + 1 } else { count }
+#[derive(Clone, Copy, Debug, PartialEq, Eq)]
+enum Command {
+    End,
+    Begins(Section),
+    Lists(Entry, u16),
 }
 
-// Whether a command may stand in a section begun by `under`, after so many types and functions,
-// with `left` bytes after it, the first of which is `first`.
-fn allowed(command: u64, under: u64, structs: u64, functions: u64, left: usize, first: u64) -> bool
-    ensures { result ≡ allowed_by command under structs functions left first }
-{
-    if command == 1 {
-        return structs < 256;
-    }
-    if command == 2 {
-        return under == 1 && 2 <= left;
-    }
-    if command == 3 {
-        return functions < 256;
-    }
-    if command == 4 {
-        return under == 3 && 2 <= left;
-    }
-    if command == 5 {
-        if under == 3 {
-            return 1 <= left && first <= 2;
+impl Section {
+    // The table's word from which on the starts of such sections stand.
+    fn base(self) -> usize
+        ensures { result ≡ base_of self }
+    {
+        match self {
+            Section::Struct => 0,
+            Section::Function => 256,
         }
-        return false;
     }
-    false
+
+    // The table's word that says how many there are.
+    fn count(self) -> usize
+        ensures { result ≡ count_of self }
+    {
+        match self {
+            Section::Struct => 512,
+            Section::Function => 513,
+        }
+    }
+}
+
+impl Entry {
+    // The kind of section that lists it.
+    fn section(self) -> Section
+        ensures { result ≡ section_of self }
+    {
+        match self {
+            Entry::Field => Section::Struct,
+            Entry::Register | Entry::Capture => Section::Function,
+        }
+    }
+
+    // Whether the number may be one: a capture's is its type, 0 to 2.
+    fn takes(self, number: u16) -> bool
+        ensures { result ≡ takes self number }
+    {
+        match self {
+            Entry::Field | Entry::Register => true,
+            Entry::Capture => number <= 2,
+        }
+    }
+}
+
+// Two bytes as a number, and the bytes after them.
+fn read_u16(bytes: &[u8]) -> Option<(u16, &[u8])>
+    ensures { MatchOption result (length bytes.now < 2) (λ read. bytes.now ≡ u16_bytes read.0 ++ read.1.now) }
+{
+    match bytes {
+        [low, high, rest @ ..] => Some((u16::from_le_bytes([*low, *high]), rest)),
+        _ => None,
+    }
+}
+
+// The first command with its operand, if it is whole, and the bytes after it.
+#[tactic(auto, unfolding(crate::specs::Sections::operand_bytes))]
+fn read_command(bytes: &[u8]) -> Option<(Command, &[u8])>
+    ensures { Reads bytes.now result }
+{
+    let [byte, rest @ ..] = bytes else {
+        return None;
+    };
+    match byte {
+        0 => Some((Command::End, rest)),
+        1 => Some((Command::Begins(Section::Struct), rest)),
+        2 => {
+            let (number, rest) = read_u16(rest)?;
+            Some((Command::Lists(Entry::Field, number), rest))
+        }
+        3 => Some((Command::Begins(Section::Function), rest)),
+        4 => {
+            let (number, rest) = read_u16(rest)?;
+            Some((Command::Lists(Entry::Register, number), rest))
+        }
+        5 => {
+            let [ty, rest @ ..] = rest else {
+                return None;
+            };
+            Some((Command::Lists(Entry::Capture, u16::from(*ty)), rest))
+        }
+        _ => None,
+    }
 }
 
 fn is_layout(bytes: &[u8]) -> bool
     ensures { result ≡ is_layout bytes.now }
 {
-    let mut skip: usize = 0;
-    let mut under: u64 = 0;
-    let mut structs: u64 = 0;
-    let mut functions: u64 = 0;
-    let mut i: usize = 0;
-    while i < bytes.len() {
-        if 0 < skip {
-            skip -= 1;
-            i += 1;
-        } else {
-            let command = byte_at(bytes, i);
-            let left = bytes.len() - i - 1;
-            if command == 0 {
-                return left == 0;
+    let mut rest = bytes;
+    let mut under = None;
+    let mut structs = 0;
+    let mut functions = 0;
+    while let Some((command, after)) = read_command(rest) {
+        match command {
+            Command::End => return after.is_empty(),
+            Command::Begins(Section::Struct) if structs < MOST => {
+                under = Some(Section::Struct);
+                structs += 1;
             }
-            let first = byte_at(bytes, i + 1);
-            if !allowed(command, under, structs, functions, left, first) {
-                return false;
+            Command::Begins(Section::Function) if functions < MOST => {
+                under = Some(Section::Function);
+                functions += 1;
             }
-            skip = operand_bytes(command);
-            under = section_of(command);
-            structs = counted(structs, command, 1);
-            functions = counted(functions, command, 3);
-            i += 1;
+            Command::Lists(entry, number)
+                if under == Some(entry.section()) && entry.takes(number) => {}
+            _ => return false,
         }
+        rest = after;
     }
     false
 }
 
-// Writes the starts of the sections that the command `begins` begins, from the table's place
-// `base` on, and gives their number.
-fn write_starts(bytes: &[u8], table: &mut [u64], begins: u64, base: usize) -> u64
-    requires { base + length (starts begins bytes.now) ≤ length table.old }
-    ensures value { result ≡ length (starts begins bytes.now) }
-    ensures table_after { table.new ≡ sets table.old base (starts begins bytes.now) }
+// Writes the starts of the sections of a kind into the table, and gives their number.
+fn write_starts(bytes: &[u8], table: &mut [u64], kind: Section) -> usize
+    requires layout { is_layout bytes.now ≡ true }
+    requires room { base_of kind + length (starts (begin_of kind) bytes.now) ≤ length table.old }
+    ensures value { result ≡ length (starts (begin_of kind) bytes.now) }
+    ensures table_after { table.new ≡ sets table.old (base_of kind) (starts (begin_of kind) bytes.now) }
 {
-    let mut skip: usize = 0;
-    let mut count: usize = 0;
-    let mut i: usize = 0;
-    while i < bytes.len() {
-        let command = byte_at(bytes, i);
-        i += 1;
-        if 0 < skip {
-            skip -= 1;
-        } else {
-            skip = operand_bytes(command);
-            if command == begins {
-                table[base + count] = i as u64;
-                count += 1;
-            }
+    let base = kind.base();
+    let mut count = 0;
+    let mut rest = bytes;
+    while let Some((command, after)) = read_command(rest) {
+        rest = after;
+        if command == Command::Begins(kind) {
+            table[base + count] = (bytes.len() - rest.len()) as u64;
+            count += 1;
         }
     }
-    count as u64
+    count
 }
 
-// Reads the layout into the table: refused, with nothing written, if the bytes are no layout or
-// the table has fewer than 514 words.
-pub fn read_layout(bytes: &[u8], table: &mut [u64]) -> Checked
+// Reads the layout into the table; what is refused writes nothing.
+pub fn read_layout(bytes: &[u8], table: &mut [u64]) -> Result<(), BadLayout>
     ensures { LayoutRead bytes.now table.old table.new result }
 {
-    if table.len() < TABLE {
-        return Checked::Refused;
+    if table.len() < TABLE || !is_layout(bytes) {
+        return Err(BadLayout);
     }
-    if !is_layout(bytes) {
-        return Checked::Refused;
-    }
-    let structs = write_starts(bytes, table, 1, 0);
-    let functions = write_starts(bytes, table, 3, FUNCTIONS);
-    table[512] = structs;
-    table[513] = functions;
-    Checked::Accepted
+    let structs = write_starts(bytes, table, Section::Struct);
+    let functions = write_starts(bytes, table, Section::Function);
+    table[Section::Struct.count()] = structs as u64;
+    table[Section::Function.count()] = functions as u64;
+    Ok(())
 }
 
-// Where the section of a struct type begins; an unknown one's is the end of the bytes.
-pub fn struct_section(bytes: &[u8], table: &[u64], number: u64) -> usize
-    requires { Tabled bytes.now table.now }
-    ensures { StructSection bytes.now number result }
-{
-    if number < table[512] {
-        table[number as usize] as usize
-    } else {
-        bytes.len()
-    }
+// The bytes of a layout that was read, and its table.
+#[derive(Clone, Copy)]
+pub struct ReadLayout<'a> {
+    pub bytes: &'a [u8],
+    pub table: &'a [u64],
+    pub ghost tabled: { Tabled bytes.now table.now },
 }
 
-// Where the section of a function begins; an unknown one's is the end of the bytes.
-pub fn function_section(bytes: &[u8], table: &[u64], number: u64) -> usize
-    requires { Tabled bytes.now table.now }
-    ensures { FunctionSection bytes.now number result }
-{
-    if number < table[513] {
-        table[FUNCTIONS + number as usize] as usize
-    } else {
-        bytes.len()
-    }
-}
+impl ReadLayout<'_> {
+    ghost use Rattle.layout.specs.Sections.{lister_of, Continues, SectionAt};
 
-// Whether a command stands in the sections that have the command `wanted`.
-fn stands_with(wanted: u64, command: u64) -> bool
-    ensures { result ≡ belongs wanted command }
-{
-    if wanted == 2 {
-        return command == 2;
-    }
-    command == 4 || command == 5
-}
-
-fn operand_of(command: u64, bytes: &[u8], at: usize) -> u64
-    requires { at ≤ length bytes.now }
-    ensures { (result ≡ operand_at command bytes.now at) × (result < 65536) }
-{
-    let low = byte_at(bytes, at);
-    if command == 5 {
-        return low;
-    }
-    low + 256 * byte_at(bytes, at + 1)
-}
-
-// The next number that commands `wanted` list, from a place in their section on.
-fn next_listed(bytes: &[u8], at: usize, wanted: u64) -> Listed
-    ensures { Continues wanted bytes.now at result }
-{
-    let mut i = at;
-    while i < bytes.len() {
-        let command = byte_at(bytes, i);
-        if !stands_with(wanted, command) {
-            return Listed::End;
+    // Where the section of a type or function begins; an unknown one's is the end of the bytes.
+    pub fn section(&self, kind: Section, number: u64) -> usize
+        ensures { SectionAt kind self.now.bytes.now number result }
+    {
+        if number < self.table[kind.count()] {
+            self.table[kind.base() + number as usize] as usize
+        } else {
+            self.bytes.len()
         }
-        let width = operand_bytes(command);
-        if bytes.len() - i <= width {
-            return Listed::End;
-        }
-        let next = i + 1 + width;
-        if command == wanted {
-            return Listed::Number(operand_of(command, bytes, i + 1), next);
-        }
-        i = next;
     }
-    Listed::End
-}
 
-pub fn next_field(bytes: &[u8], at: usize) -> Listed
-    ensures { Continues 2 bytes.now at result }
-{
-    next_listed(bytes, at, 2)
-}
-
-pub fn next_register(bytes: &[u8], at: usize) -> Listed
-    ensures { Continues 4 bytes.now at result }
-{
-    next_listed(bytes, at, 4)
-}
-
-pub fn next_capture(bytes: &[u8], at: usize) -> Listed
-    ensures { Continues 5 bytes.now at result }
-{
-    next_listed(bytes, at, 5)
+    // The next number that a section lists as such an entry, from a place in the section on.
+    pub fn next(&self, entry: Entry, at: usize) -> Option<Listed>
+        ensures { Continues (lister_of entry) self.now.bytes.now at result }
+    {
+        let mut rest = self.bytes.get(at..)?;
+        while let Some((command, after)) = read_command(rest) {
+            let Command::Lists(listed, number) = command else {
+                return None;
+            };
+            if listed == entry {
+                return Some(Listed {
+                    number: u64::from(number),
+                    next: self.bytes.len() - after.len(),
+                });
+            }
+            if listed.section() != entry.section() {
+                return None;
+            }
+            rest = after;
+        }
+        None
+    }
 }

@@ -17,7 +17,7 @@ use collections_growth::Perhaps;
 use heap::{Done, Heap, Made, Opened, Reading, Refusal};
 use heap_access::FrameRead;
 use heap_allocation::Coroutine;
-use map_store::{Cursor, Last};
+use map_store::Cursor;
 use model::{Frame, Weights};
 use std::io;
 
@@ -122,8 +122,8 @@ fn print_cursor(rt: &impl Print, c: Cursor) -> io::Result<()> {
     let last = c.last;
     rt.write_all(b" cursor")?;
     match last {
-        Last::Never => rt.write_all(b" never")?,
-        Last::Seq(n) => print_number(rt, n)?,
+        None => rt.write_all(b" never")?,
+        Some(n) => print_number(rt, n)?,
     }
     print_number(rt, c.pos as u64)?;
     print_number(rt, c.epoch as u64)?;
@@ -241,7 +241,7 @@ fn steps(
     requires { Good (state heap slots.now scalars.now list.now directory.now cells.now) }
 {
     let mut c = Cursor {
-        last: Last::Never,
+        last: None,
         pos: 0,
         epoch: 0,
     };

@@ -10,31 +10,33 @@ use lib.Dec.{eqb}
 use borrow.Author.Tests.{le-leb, lt-leb, lt-ltb, le-ltb}
 use lib.ListN.{length, get_or}
 use Rattle.map_store.specs.Store as S
-use Rattle.map_store.specs.View.{store_of, room_of}
+use Rattle.map_store.specs.View.{store_of, room_of, position}
 use Rattle.map_store.specs.Map.{Good, Became, Valued}
 use Rattle.map_store.specs.declared.MapStore.{MapStore}
-use Rattle.map_bench.specs.Loops.{loaded, bare, Ran, Answered, AnsweredBy, outcome_number, put_refusal, put_to, removed_to, one_of, met_to, front, onward, walked}
-use Rattle.map_bench.specs.declared.Outcome.{Outcome}
-use Rattle.map_bench.specs.declared.Outcome.TheVariants.{Done, Refused}
+use Rattle.map_bench.specs.Loops.{loaded, bare, Ran, Answered, AnsweredBy, refusal_number, put_refusal, put_to, removed_to, one_of, met_to, front, onward, walked}
+use Rattle.map_bench.specs.declared.Refusal.{Refusal}
+use Rattle.map_bench.specs.declared.Refusal.TheVariants.{NoCells, NumbersSpent}
+use Rattle.std.specs.Prelude as Prelude
+use Rattle.std.specs.Prelude.{Result, Ok, Err, Some, None, is_some, is_err}
 
 -- put
 module _ (hash key value : ℕ) (s : MapStore) (cells : List ℕ) where
-  pub put-found : (p : ℕ) (cells' : List ℕ) → some p ≡ S.find false hash key (store_of s cells) → Valued p value s cells cells' → Answered hash key value s cells (Done s) cells'
-  unfolding AnsweredBy outcome_number put_refusal S.put_at
+  pub put-found : (p : ℕ) (cells' : List ℕ) → some p ≡ S.find false hash key (store_of s cells) → Valued p value s cells cells' → Answered hash key value s cells (Ok tt) s cells'
+  unfolding AnsweredBy refusal_number put_refusal S.put_at
   put-found p cells' h X = record { number = rw (← h); leaves = (X.store ∙ rw (← h), X.good) }
 
   module _ (h : none ≡ S.find false hash key (store_of s cells)) where
-    pub put-spent : 4294967296 ≤ s.fresh → Answered hash key value s cells (Refused 9) cells
-    unfolding AnsweredBy outcome_number put_refusal
-    put-spent l = record { number = rw (← h, le-leb 4294967296 s.fresh l); leaves = refl }
+    pub put-spent : 4294967296 ≤ s.fresh → Answered hash key value s cells (Err NumbersSpent) s cells
+    unfolding AnsweredBy refusal_number put_refusal
+    put-spent l = record { number = rw (← h, le-leb 4294967296 s.fresh l); leaves = (refl, refl) }
 
     module _ (l : s.fresh < 4294967296) {wanted : ℕ} (e : wanted ≡ S.cells_of (S.room_after_insert false key (store_of s cells) (room_of s))) where
-      pub put_full : length cells < wanted → Answered hash key value s cells (Refused 7) cells
-      unfolding AnsweredBy outcome_number put_refusal
-      put_full m = record { number = rw (← h, lt-leb 4294967296 s.fresh l, ← e, lt-ltb (length cells) wanted m); leaves = refl }
+      pub put_full : length cells < wanted → Answered hash key value s cells (Err NoCells) s cells
+      unfolding AnsweredBy refusal_number put_refusal
+      put_full m = record { number = rw (← h, lt-leb 4294967296 s.fresh l, ← e, lt-ltb (length cells) wanted m); leaves = (refl, refl) }
 
-      pub put-new : wanted ≤ length cells → (r : MapStore) (cells' : List ℕ) (R : S.Room) → Became (S.inserted false hash key value) R s cells r cells' → Answered hash key value s cells (Done r) cells'
-      unfolding AnsweredBy outcome_number put_refusal S.put_at
+      pub put-new : wanted ≤ length cells → (r : MapStore) (cells' : List ℕ) (R : S.Room) → Became (S.inserted false hash key value) R s cells r cells' → Answered hash key value s cells (Ok tt) r cells'
+      unfolding AnsweredBy refusal_number put_refusal S.put_at
       put-new m r cells' R B = record { number = rw (← h, lt-leb 4294967296 s.fresh l, ← e, le-ltb (length cells) wanted m); leaves = (B.store ∙ rw (← h), B.good) }
 
 -- no call of the loops notes a key
@@ -123,23 +125,14 @@ module _ (rule : ℕ → S.Store → S.Store) (words₀ cells₀ : List ℕ) whe
         record { live = G.live; fits = G.fits; room = G.room; small = G.small; numbers = G.numbers; numbered = G.numbered; packed = G.packed; indexed = G.indexed } in
         record { store = ap (λ (m : MapStore). store_of m cells) e ∙ same ∙ X.so_far; good = subst (λ (m : MapStore). Good m cells) (sym e) kept }
 
--- find and the steps of a cursor: the count so far
-pub record Counting (count : ℕ → ℕ) (n i r : ℕ) : Type 0 where
-  pub within : i ≤ n
-  pub so_far : r ≡ count i
-  pub few : r ≤ i
+-- find and the steps of a cursor
+-- an answer more: it is counted where it is a position
+module _ (answer : ℕ → Option ℕ) (i r : ℕ) (C : (r ≡ met_to answer i) × (r ≤ i)) where
+  pub count_some : {p : ℕ} → some p ≡ answer i → (r + 1 ≡ met_to answer (i + 1)) × (r + 1 ≤ i + 1)
+  count_some h = let t = met_turn answer i _ h in (omega (arith, C.0, t), omega (arith, C.1))
 
-pub count-start : (count : ℕ → ℕ) (n : ℕ) → 0 ≡ count 0 → Counting count n 0 0
-count-start count n e = record { within = omega arith; so_far = e; few = omega arith }
-
-pub count_turn : (count : ℕ → ℕ) (n i r d : ℕ) → i < n → Counting count n i r → d ≤ 1 → count i + d ≡ count (i + 1) → Counting count n (i + 1) (r + d)
-count_turn count n i r d h C l e = record { within = omega arith; so_far = ap (λ (x : ℕ). x + d) C.so_far ∙ e; few = omega (arith, C.few) }
-
-pub count-still : (count : ℕ → ℕ) (n i r : ℕ) → i < n → Counting count n i r → count i + 0 ≡ count (i + 1) → Counting count n (i + 1) r
-count-still count n i r h C e = record { within = omega arith; so_far = C.so_far ∙ (let z : count i ≡ count (i + 1) = omega arith in z); few = omega (arith, C.few) }
-
-pub count-end : (count : ℕ → ℕ) (n i r : ℕ) → n ≤ i → Counting count n i r → r ≡ count n
-count-end count n i r h C = C.so_far ∙ ap count (let z : i ≡ n = omega (arith, C.within) in z)
+  pub count_none : none ≡ answer i → (r ≡ met_to answer (i + 1)) × (r ≤ i + 1)
+  count_none h = let t = met_turn answer i _ h in (omega (arith, C.0, t), omega (arith, C.1))
 
 -- a walk of a cursor under way, after i steps
 pub record Walking (n i : ℕ) (s : S.Store) (c : S.Cursor) : Type 0 where
@@ -171,6 +164,15 @@ module _ (n i : ℕ) (s : S.Store) (c : S.Cursor) (W : Walking n i s c) where
       let z : walked (n - i) s c ≡ 0 = ap (λ (k : ℕ). walked k s c) (let z : n - i ≡ 0 = omega arith in z) in
       omega (arith, W.left, z)
 
+-- the answer of a step, by the test on what was found
+pub no_answer : (o : Prelude.Option ℕ) → is_some o ≡ false → position o ≡ none
+no_answer None e = refl
+no_answer (Some p) e = absurd (let z : ◌≡◌ {A = ℕ} 0 1 = cc in omega arith)
+
+pub some_answer : (o : Prelude.Option ℕ) → is_some o ≡ true → (p : ℕ) × (position o ≡ some p)
+some_answer (Some p) e = (p, refl)
+some_answer None e = absurd (let z : ◌≡◌ {A = ℕ} 0 1 = cc in omega arith)
+
 -- save
 pub saved : (m : MapStore) (h : ℕ) → m.epoch < 4294967296 → eqb h 1 ≡ m.hashed
     → loaded (m.len ∷ m.live ∷ m.fresh ∷ m.capacity ∷ m.index ∷ m.epoch ∷ h ∷ []) ≡ bare m
@@ -178,22 +180,22 @@ saved m h l e = let z : m.epoch % 4294967296 ≡ m.epoch = omega arith in rw (e,
 
 -- the turns of map_bench_put and map_bench_remove
 module _ (hs ks words₀ cells₀ cells : List ℕ) (store : MapStore) (i : ℕ) where
-  module _ (X : Running (put_to hs ks) words₀ cells₀ cells store i) (out : Outcome) (cells' : List ℕ) (A : Answered (get_or hs i 0) (get_or ks i 0) i store cells out cells') where
-    pub put-done : (r : MapStore) → out ≡ Done r → length cells' ≡ length cells → Running (put_to hs ks) words₀ cells₀ cells' r (i + 1)
+  module _ (X : Running (put_to hs ks) words₀ cells₀ cells store i) (hash key value : ℕ) (r : MapStore) (cells' : List ℕ) where
+    pub put-done : hash ≡ get_or hs i 0 → key ≡ get_or ks i 0 → value ≡ i → (out : Result Unit Refusal) → is_err out ≡ false → Answered hash key value store cells out r cells'
+        → length cells' ≡ length cells → Running (put_to hs ks) words₀ cells₀ cells' r (i + 1)
     unfolding AnsweredBy
-    put-done r e l =
-        let B = subst (λ (o : Outcome). AnsweredBy (get_or hs i 0) (get_or ks i 0) i store cells o cells') e A.leaves in
-        run_step (put_to hs ks) words₀ cells₀ cells store i X r cells' l B.1
-        (B.0 ∙ ap (S.put false (get_or hs i 0) (get_or ks i 0) i) X.so_far ∙ put_turn hs ks i (store_of (loaded words₀) cells₀))
+    put-done eh ek ev (Ok u) e A l =
+        run_step (put_to hs ks) words₀ cells₀ cells store i X r cells' l A.leaves.1
+        (rw (eh, ek, ev) at A.leaves.0 ∙ ap (S.put false (get_or hs i 0) (get_or ks i 0) i) X.so_far ∙ put_turn hs ks i (store_of (loaded words₀) cells₀))
+    put-done eh ek ev (Err n) e A l = absurd (let z : ◌≡◌ {A = ℕ} 0 1 = cc in omega arith)
 
-    pub put_stop : {n : ℕ} → out ≡ Refused n → Running (put_to hs ks) words₀ cells₀ cells' store i
+    pub put_stop : (out : Result Unit Refusal) → is_err out ≡ true → Answered hash key value store cells out r cells' → Running (put_to hs ks) words₀ cells₀ cells' r i
     unfolding AnsweredBy
-    put_stop e =
-        let B = subst (λ (o : Outcome). AnsweredBy (get_or hs i 0) (get_or ks i 0) i store cells o cells') e A.leaves in
-        subst (λ (c : List ℕ). Running (put_to hs ks) words₀ cells₀ c store i) (sym B) X
+    put_stop (Err n) e A = rw (A.leaves.0, A.leaves.1) X
+    put_stop (Ok u) e A = absurd (let z : ◌≡◌ {A = ℕ} 0 1 = cc in omega arith)
 
-  pub remove-done : Running (removed_to hs ks) words₀ cells₀ cells store i → (r : MapStore) (cells' : List ℕ) (R : S.Room)
-      → Became (S.removed_key false (get_or hs i 0) (get_or ks i 0)) R store cells r cells' → length cells' ≡ length cells → Running (removed_to hs ks) words₀ cells₀ cells' r (i + 1)
-  remove-done X r cells' R B l =
+  pub remove-done : Running (removed_to hs ks) words₀ cells₀ cells store i → (hash key : ℕ) → hash ≡ get_or hs i 0 → key ≡ get_or ks i 0 → (r : MapStore) (cells' : List ℕ) (R : S.Room)
+      → Became (S.removed_key false hash key) R store cells r cells' → length cells' ≡ length cells → Running (removed_to hs ks) words₀ cells₀ cells' r (i + 1)
+  remove-done X hash key eh ek r cells' R B l =
       run_step (removed_to hs ks) words₀ cells₀ cells store i X r cells' l B.good
-      (B.store ∙ ap (S.removed_key false (get_or hs i 0) (get_or ks i 0)) X.so_far ∙ remove_turn hs ks i (store_of (loaded words₀) cells₀))
+      (rw (eh, ek) at B.store ∙ ap (S.removed_key false (get_or hs i 0) (get_or ks i 0)) X.so_far ∙ remove_turn hs ks i (store_of (loaded words₀) cells₀))

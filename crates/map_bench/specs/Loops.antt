@@ -1,17 +1,18 @@
 -- What the loops make of a store.
-use Rattle.std.specs.Prelude.{◌≡◌, false, cond, List, ℕ, zero, suc, ◌+◌, ◌%◌, eqb, leb, ltb, pos, get_or, length}
+use Rattle.std.specs.Prelude.{◌≡◌, false, cond, List, ℕ, zero, suc, ◌+◌, ◌%◌, eqb, leb, ltb, get_or, length}
+use Rattle.std.specs.Prelude.{None, Result, Ok, Err}
 use Rattle.std.proofs.Math.Option.{Option, none, some}
 use Rattle.map_store.specs.Store as S
 use Rattle.map_store.specs.View.{store_of, room_of}
 use Rattle.map_store.specs.Map.{Good}
 use Rattle.map_store.specs.declared.MapStore.{MapStore}
-use Rattle.map_bench.specs.declared.Outcome.{Outcome}
-use Rattle.map_bench.specs.declared.Outcome.TheVariants.{Done, Refused}
+use Rattle.map_bench.specs.declared.Refusal.{Refusal}
+use Rattle.map_bench.specs.declared.Refusal.TheVariants.{NoCells, NumbersSpent}
 
 -- The record in seven words; no key is noted.
 abbrev pub loaded : List ℕ → MapStore
 loaded ws = record {
-  noted = pos 0;
+  noted = None;
   len = get_or ws 0 0;
   live = get_or ws 1 0;
   fresh = get_or ws 2 0;
@@ -19,11 +20,10 @@ loaded ws = record {
   index = get_or ws 4 0;
   epoch = get_or ws 5 0 % 4294967296;
   hashed = eqb (get_or ws 6 0) 1;
-  known = false;
 }
 
 abbrev pub bare : MapStore → MapStore
-bare m = record { noted = pos 0; len = m.len; live = m.live; fresh = m.fresh; capacity = m.capacity; index = m.index; epoch = m.epoch; hashed = m.hashed; known = false }
+bare m = record { noted = None; len = m.len; live = m.live; fresh = m.fresh; capacity = m.capacity; index = m.index; epoch = m.epoch; hashed = m.hashed }
 
 -- The words and cells hold what the rule makes of the store that they held.
 pub record Ran (rule : S.Store → S.Store) (words cells words' cells' : List ℕ) : Type 0 where
@@ -31,9 +31,10 @@ pub record Ran (rule : S.Store → S.Store) (words cells words' cells' : List �
   pub good : Good (loaded words') cells'
 
 -- document 01's number of each case
-unfoldable pub outcome_number : Outcome → ℕ
-outcome_number (Done r) = 0
-outcome_number (Refused n) = n
+unfoldable pub refusal_number : Result Unit Refusal → ℕ
+refusal_number (Ok u) = 0
+refusal_number (Err NoCells) = 7
+refusal_number (Err NumbersSpent) = 9
 
 -- put: where the key is absent, "9 a map's 2^32 sequence numbers are spent", then "7 no cells"
 unfoldable pub put_refusal : Option ℕ → ℕ → MapStore → List ℕ → ℕ
@@ -42,13 +43,13 @@ put_refusal none key s cells =
     cond (leb 4294967296 s.fresh) 9
     (cond (ltb (length cells) (S.cells_of (S.room_after_insert false key (store_of s cells) (room_of s)))) 7 0)
 
-unfoldable pub AnsweredBy : ℕ → ℕ → ℕ → MapStore → List ℕ → Outcome → List ℕ → Type 0
-AnsweredBy hash key value s cells (Done r) cells' = (store_of r cells' ≡ S.put false hash key value (store_of s cells)) × Good r cells'
-AnsweredBy hash key value s cells (Refused n) cells' = cells' ≡ cells
+unfoldable pub AnsweredBy : ℕ → ℕ → ℕ → MapStore → List ℕ → Result Unit Refusal → MapStore → List ℕ → Type 0
+AnsweredBy hash key value s cells (Ok u) s' cells' = (store_of s' cells' ≡ S.put false hash key value (store_of s cells)) × Good s' cells'
+AnsweredBy hash key value s cells (Err n) s' cells' = (s' ≡ s) × (cells' ≡ cells)
 
-pub record Answered (hash key value : ℕ) (s : MapStore) (cells : List ℕ) (r : Outcome) (cells' : List ℕ) : Type 0 where
-  pub number : outcome_number r ≡ put_refusal (S.find false hash key (store_of s cells)) key s cells
-  pub leaves : AnsweredBy hash key value s cells r cells'
+pub record Answered (hash key value : ℕ) (s : MapStore) (cells : List ℕ) (r : Result Unit Refusal) (s' : MapStore) (cells' : List ℕ) : Type 0 where
+  pub number : refusal_number r ≡ put_refusal (S.find false hash key (store_of s cells)) key s cells
+  pub leaves : AnsweredBy hash key value s cells r s' cells'
 
 -- the first n keys put, and removed
 unfoldable pub put_to : List ℕ → List ℕ → ℕ → S.Store → S.Store

@@ -1,11 +1,12 @@
 -- An entry is taken out of a hashed store.
-use Rattle.std.proofs.Common.{◌≡◌, ℕ, ◌+◌, ◌-◌, ◌*◌, ◌<◌, ◌≤◌, Bool, true, false, cond, ◌&&◌, ◌≢◌, List, length, get_or, set, sym, refl, ap, ◌∙◌, subst, arith, length-set, get_or-set_other, get_or-set_same, ltb-true, le-ltb, lt-ltb, eq-eqb, ne_eqb}
+use Rattle.std.proofs.Common.{◌≡◌, ℕ, ◌+◌, ◌-◌, ◌*◌, ◌%◌, ◌<◌, ◌≤◌, Bool, true, false, cond, ◌&&◌, ◌≢◌, List, length, get_or, set, sym, refl, ap, ◌∙◌, subst, arith, length-set, get_or-set_other, get_or-set_same, ltb-true, le-ltb, lt-ltb, eq-eqb, ne_eqb}
 use Rattle.probing.specs.Table.{vacancy}
 use Rattle.map_store.specs.Half.{held}
 use Rattle.map_store.specs.Store as S
 use Rattle.map_store.specs.StoreLaws.{live_le, live-set, live-only, length-only}
 use Rattle.map_store.specs.View.{entry_at, entries_in, store_of, room_of}
-use Rattle.map_store.specs.Map.{Mapped, Framed, Alive, Sits, Good, Indexed, Became, Rebuildable, Rebuilt, Squeezed, Tightened, Taken, killed_at, lessened_to, live_in}
+use Rattle.map_store.specs.Map.{Mapped, Framed, Alive, Sits, Good, Indexed, Became, Rebuildable, Rebuilt, Squeezed, live_in}
+use Rattle.map_store.proofs.Parts.{Tightened, Taken, killed_at, lessened_to}
 use Rattle.map_store.specs.Entries.{length_entries, entries_at, entries_below, entries_set, entry_same}
 use Rattle.map_store.specs.Numbered.{Numbered, numbered_dead, numbered_settled}
 use Rattle.map_store.specs.declared.MapStore.{MapStore}
@@ -122,19 +123,24 @@ module _ (cells : List ℕ) (ib n m l pos slot : ℕ) (X : Indexed cells ib n m 
     unfolding S.compacts
     taken_less a b = kept _ refl (rw (lt-ltb _ _ a, le-ltb _ _ b))
 
+    pub tight-places : (cells₂ : List ℕ) (r : ℕ) → Tightened cells₁ cells₂ ib n m r → r ≡ l - 1
+    tight-places cells₂ r Z = sym (length_entries cells₂ 0 r) ∙ ap length Z.entries ∙ length-only (entries_in cells₁ 0 m) ∙ left
+
     pub taken-tight : 16 < m - (l - 1) → l - 1 < m - (l - 1) → (cells₂ : List ℕ) (r : ℕ) → Tightened cells₁ cells₂ ib n m r → Taken cells cells₂ ib n m l pos r
     unfolding S.compacts
     taken-tight a b cells₂ r Z =
         let g : S.compacts (m - (l - 1)) (l - 1) ≡ true = rw (lt-ltb _ _ a, lt-ltb _ _ b) in
-        let k : r ≡ l - 1 = sym (length_entries cells₂ 0 r) ∙ ap length Z.entries ∙ length-only (entries_in cells₁ 0 m) ∙ left in
         record {
           same_length = Z.same_length ∙ same_length;
-          places = rw g k;
+          places = rw g (tight-places cells₂ r Z);
           entries = rw g (Z.entries ∙ ap S.live_only es);
           indexed = rw left at Z.indexed;
         }
 
 -- the store afterwards
+abbrev pub less : MapStore → ℕ → ℕ → MapStore
+less s len epoch = record { noted = s.noted; len = len; live = s.live - 1; fresh = s.fresh; capacity = s.capacity; index = s.index; epoch = epoch; hashed = s.hashed }
+
 module _ (s : MapStore) (cells : List ℕ) (pos : ℕ) (G : Good s cells) where
   abbrev dead : S.Store
   dead = S.with_dead pos (store_of s cells)
@@ -202,3 +208,10 @@ module _ (s : MapStore) (cells : List ℕ) (pos : ℕ) (G : Good s cells) where
             indexed = λ k. T.indexed;
           };
         }
+
+    pub took-fewer : r ≢ s.len → Became (λ t. S.settled (S.with_dead pos t)) (room_of s) s cells (less s r ((s.epoch + 1) % 4294967296)) cells'
+    took-fewer ne = rw (ne_eqb r s.len ne) at lessened_became
+
+  pub took-kept : (cells' : List ℕ) → Taken cells cells' (s.capacity * 5) s.index s.len s.live pos s.len → Alive cells s.len pos
+      → Became (λ t. S.settled (S.with_dead pos t)) (room_of s) s cells (less s s.len s.epoch) cells'
+  took-kept cells' T A = rw (eq-eqb s.len s.len refl) at (lessened_became cells' s.len T A)

@@ -17,6 +17,7 @@ ghost use Rattle.collector.specs.Answer.{collection_is};
 
 use collector::Collection;
 use heap::{Heap, Opened, Reading, Refusal};
+use layout::ReadLayout;
 use model::Weights;
 
 // The operands of a command: so many bytes; or the command is unknown, or one is missing.
@@ -243,8 +244,10 @@ fn call_collect(
         list,
         directory,
         cells,
-        layout,
-        table,
+        ReadLayout {
+            bytes: layout,
+            table,
+        },
         marks,
         order,
         roots,

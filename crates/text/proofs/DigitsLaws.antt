@@ -1,12 +1,12 @@
 -- Digits of numbers. Assumes nothing.
 use Prim.Native.Nat.{ℕ, zero, suc, ◌+◌, ◌-◌, ◌/◌, ◌%◌, ◌^◌, ◌≤◌, ◌<◌}
 use mathlib.Core.Path.{◌≡◌, refl, ap, ◌∙◌}
-use mathlib.Core.Logic.{◌⊎◌, inl, inr, ⊎_elim}
 use mathlib.Core.Bool.{Bool, true, false, cond}
 use mathlib.Core.List.{List, [], ◌∷◌, ◌++◌, append_assoc, append-nil}
 use native.Mathlib.Omega.{arith}
-use native.Mathlib.Nat.{add-zero, add-suc, pow-zero, pow-suc, pow-succ', div-one, div-div-eq-div-mul, zero-div, zero-mod, div-eq_of_lt, mod-eq_of_lt, eq-or-lt_of_le}
-use native.Mathlib.Numerals.{add-one}
+use native.Mathlib.Nat.{add-zero, add-suc, pow-zero, pow-suc, pow-succ', div-one, div-div-eq-div-mul, zero-div, zero-mod, div-eq_of_lt, mod-eq_of_lt}
+use Rattle.std.proofs.Common.{max, ◌*◌}
+use Rattle.std.proofs.lemmas.Nat.{le-div}
 use lib.Dec.{eqb}
 use lib.ListN.{length, length-append}
 use borrow.Author.Tests.{ne_eqb, lt-ltb}
@@ -99,41 +99,11 @@ module _ (x k : ℕ) (z : x / 10 ^ suc k ≡ 0) where
       let e : 20 ≡ (20 - suc k) + suc k = omega arith in
       ap (λ (n : ℕ). trimmed (digits 10 n x)) e ∙ rw (digits_split 10 (20 - suc k) (suc k) x, z, digits-first k x) (zeros_trimmed (20 - suc k) (digit (x / 10 ^ k % 10)) (digits 10 k x))
 
--- ---- digits counted by division: n so far, rest above them
-
-pub record Counting (x n rest : ℕ) : Type 0 where
-  pub left : rest ≡ x / 10 ^ n
-  pub first : (n ≡ 1) ⊎ (0 < x / 10 ^ (n - 1))
-  pub some : 1 ≤ n
-  pub few : n ≤ 20
-
-pub counting_start : (x : ℕ) → Counting x 1 (x / 10)
-counting_start x = record { left = refl; first = inl refl; some = omega arith; few = omega arith }
-
-module _ (x n rest : ℕ) (g : Counting x n rest) where
-  counted : (k : ℕ) → n ≡ suc k → rest ≡ 0 → decimal x ≡ digits 10 n x
-  counted k e z =
-      let q : x / 10 ^ suc k ≡ 0 = rw (← e, ← g.left) z in
-      let t : decimal x ≡ trimmed (digits 10 n x) = decimal-trimmed x k q (omega arith) ∙ rw e in
-      let r : n - 1 ≡ k = omega arith in
-      ⊎_elim
-      (λ o. t ∙ rw o (one_kept x))
-      (λ p. t ∙ rw e (first-kept x k q (rw r at p)))
-      g.first
-
-  pub counting_end : rest ≡ 0 → decimal x ≡ digits 10 n x
-  counting_end z = counted (n - 1) (omega arith) z
-
-  module _ (w : x < 0x10000000000000000) (p : 0 < rest) where
-    not_twenty : n ≡ 20 → ⊥
-    not_twenty e = let z : x / 10 ^ 20 ≡ 0 = div-eq_of_lt (omega arith) in omega (arith, rw e at g.left)
-
-    pub counting_step : Counting x (n + 1) (rest / 10)
-    counting_step =
-        let q : n + 1 - 1 ≡ n = omega arith in
-        record {
-          left = rw g.left (div-div-eq-div-mul x (10 ^ n) 10 ∙ rw (add-one n, pow-suc 10 n));
-          first = inr (rw q (omega (arith, g.left)));
-          some = omega arith;
-          few = ⊎_elim (λ e. absurd (not_twenty e)) (λ l. omega arith) (eq-or-lt_of_le g.few);
-        }
+-- the width of x is that of its highest power of ten; 0 has one digit
+pub by_width : (x k : ℕ) → k < 20 → x < 10 * 10 ^ k → 10 ^ k ≤ max x 1 → decimal x ≡ digits 10 (k + 1) x
+by_width x zero l h p = let z : x / 10 ^ suc zero ≡ 0 = omega arith in decimal-trimmed x zero z (omega arith) ∙ one_kept x
+by_width x (suc k) l h p =
+    let e : suc k + 1 ≡ suc (suc k) = omega arith in
+    let q : x / 10 ^ suc (suc k) ≡ 0 = div-eq_of_lt (omega (arith, pow-suc 10 (suc k))) in
+    let t : 10 ≤ 10 ^ suc k = omega (arith, pow-suc 10 k) in
+    rw e (decimal-trimmed x (suc k) q (omega arith) ∙ first-kept x (suc k) q (le-div 1 x (10 ^ suc k) (omega arith) (omega arith)))

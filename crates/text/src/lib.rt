@@ -15,14 +15,14 @@ pub fn put_byte(out: &mut [u8], at: usize, b: u8) -> usize
     at + 1
 }
 
+#[tactic(auto, using(std::proofs::lemmas::Bool::Decides::nat_tests), unfolding(model::specs::Callsheet::digit))]
 fn digit_byte(d: u64) -> u8
     requires { d < 16 }
     ensures { result ≡ digit d }
 {
-    if d < 10 {
-        (48 + d) as u8
-    } else {
-        (55 + d) as u8
+    match d {
+        0..=9 => b'0' + d as u8,
+        _ => b'A' + (d - 10) as u8,
     }
 }
 
@@ -32,12 +32,9 @@ fn put_digits(out: &mut [u8], at: usize, base: u64, n: usize, w: u64) -> usize
     ensures { Puts (digits base n w) out.old at out.new result }
 {
     let mut rest = w;
-    let mut left = n;
-    while 0 < left {
-        left -= 1;
-        let d = digit_byte(rest % base);
-        out[at + left] = d;
-        rest = rest / base;
+    for left in (0..n).rev() {
+        out[at + left] = digit_byte(rest % base);
+        rest /= base;
     }
     at + n
 }
@@ -53,13 +50,7 @@ pub fn put_hex(out: &mut [u8], at: usize, w: u64, n: usize) -> usize
 fn decimal_width(w: u64) -> usize
     ensures { decimal w ≡ digits 10 result w }
 {
-    let mut n: usize = 1;
-    let mut rest = w / 10;
-    while 0 < rest {
-        rest = rest / 10;
-        n += 1;
-    }
-    n
+    w.max(1).ilog10() as usize + 1
 }
 
 pub fn put_decimal(out: &mut [u8], at: usize, w: u64) -> usize
@@ -130,11 +121,7 @@ pub fn read_little(bytes: &[u8], at: usize, n: usize) -> u64
     requires { (n ≤ 8) × (at + n ≤ length bytes.now) }
     ensures { ReadsLittle bytes.now at n result }
 {
-    let mut x: u64 = 0;
-    let mut i = n;
-    while 0 < i {
-        i -= 1;
-        x = x * 256 + bytes[at + i] as u64;
-    }
-    x
+    let mut eight = [0; 8];
+    eight[..n].copy_from_slice(&bytes[at..at + n]);
+    u64::from_le_bytes(eight)
 }

@@ -12,16 +12,16 @@ shows-requires c κs = search rules
 enum_told-1 : tie.Need-enum_told-1
 enum_told-1 c = search rules
 
-shows-requires-in-NoWord : tie.Need-shows-requires-in-NoWord
-shows-requires-in-NoWord c κs = search rules
+shows-requires-in-None : tie.Need-shows-requires-in-None
+shows-requires-in-None c κs = search rules
 
-returns-in-Word : tie.Need-returns-in-Word
+returns-in-Some : tie.Need-returns-in-Some
 unfolding shown_of with_lent answer_shown reply_shown inline_shown
-returns-in-Word c = rw (c.in-Word.is, c.shows.ensures)
+returns-in-Some c = rw (c.in-Some.is, c.shows.ensures)
 
-returns-in-NoWord : tie.Need-returns-in-NoWord
+returns-in-None : tie.Need-returns-in-None
 unfolding shown_of with_lent answer_shown reply_shown inline_shown
-returns-in-NoWord c = rw (c.in-NoWord.is, c.shows-in-NoWord.ensures)
+returns-in-None c = rw (c.in-None.is, c.shows-in-None.ensures)
 
 pub inline_spec : {M : Type 1} → statement M
 inline_spec =
@@ -30,6 +30,6 @@ inline_spec =
     enum_known-a
     shows-requires
     enum_told-1
-    shows-requires-in-NoWord
-    returns-in-Word
-    returns-in-NoWord)
+    shows-requires-in-None
+    returns-in-Some
+    returns-in-None)

@@ -12,8 +12,8 @@ use Rattle.capi.proofs.Laws.{word-told}
 use Rattle.capi.proofs.mch_float_word.Statement.{statement}
 use Rattle.capi.proofs.mch_float_word.Tie as tie
 
-float_of_bits-f-requires : tie.Need-float_of_bits-f-requires
-float_of_bits-f-requires c κs = search rules
+f64_from_bits_with_nan-f-requires : tie.Need-f64_from_bits_with_nan-f-requires
+f64_from_bits_with_nan-f-requires c κs = search rules
 
 from_f64-requires : tie.Need-from_f64-requires
 from_f64-requires c κs = search rules
@@ -26,13 +26,13 @@ write_answer-requires c κs = search rules
 
 returns : tie.Need-returns
 unfolding terms effect
-returns c = λ m. word-told m (Calls.float_word _) (number _) refl (ap (λ (n : ℕ). uncharged [] (number n)) (sym (c.from_f64.ensures ∙ ap word_of_float c.float_of_bits-f.ensures))) c.number.ensures c.write_answer.ensures
+returns c = λ m. word-told m (Calls.float_word _) (number _) refl (ap (λ (n : ℕ). uncharged [] (number n)) (sym (c.from_f64.ensures ∙ ap word_of_float c.f64_from_bits_with_nan-f.ensures))) c.number.ensures c.write_answer.ensures
 
 pub mch_float_word_spec : {M : Type 1} → statement M
 mch_float_word_spec =
     tie.close
     (tie.spec
-    float_of_bits-f-requires
+    f64_from_bits_with_nan-f-requires
     from_f64-requires
     number-requires
     write_answer-requires

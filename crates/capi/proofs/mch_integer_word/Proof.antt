@@ -3,7 +3,8 @@ use mathlib.Core.Path.{sym, ap, refl}
 use mir.Facts.{to_z-of_z}
 use mathlib.Core.List.{[]}
 use Rattle.model.specs.Replies.{inline}
-use Rattle.words.specs.declared.Inline.{Inline}
+use Rattle.std.specs.Prelude.{Option}
+use Prim.Native.Nat.{ℕ}
 use Rattle.model.specs.Calls as Calls
 use Rattle.model.specs.Calls.{effect}
 use Rattle.model.specs.Terms.{terms, uncharged}
@@ -22,7 +23,7 @@ write_answer-requires c κs = search rules
 
 returns : tie.Need-returns
 unfolding terms effect
-returns c = λ m. word-told m (Calls.integer_word _) (inline _) refl (ap (λ (i : Inline). uncharged [] (inline i)) (sym (rw (to_z-of_z c.ranges.z) at c.inline_int-w.ensures))) c.inline.ensures c.write_answer.ensures
+returns c = λ m. word-told m (Calls.integer_word _) (inline _) refl (ap (λ (i : Option ℕ). uncharged [] (inline i)) (sym (rw (to_z-of_z c.ranges.z) at c.inline_int-w.ensures))) c.inline.ensures c.write_answer.ensures
 
 pub mch_integer_word_spec : {M : Type 1} → statement M
 mch_integer_word_spec =

@@ -48,7 +48,7 @@ shape_of-slots-then-cells-heap c = search rules
 returns-then-cells-heap : tie.Need-returns-then-cells-heap
 unfolding done_is
 returns-then-cells-heap c =
-    rw c.unchanged-then-cells-heap.ensures (push-full (array_at c.requires.0 c.requires.1 c.read_header-h.ensures) c.push_bytes.ensures (charge-next _ _ c.charge.ensures c.in-Next.is).0 c.push_size-size.ensures c.if-cells-heap.true)
+    rw c.unchanged-then-cells-heap.ensures (push-full (array_at c.requires.0 c.requires.1 c.read_header-h.ensures) c.push_bytes.ensures (charge-next _ _ c.charge.ensures c.in-Ok.is).0 c.push_size-size.ensures c.if-cells-heap.true)
 
 push_grown-top-requires : tie.Need-push_grown-top-requires
 push_grown-top-requires c κs =
@@ -57,13 +57,13 @@ push_grown-top-requires c κs =
 overflow_add-result : tie.Need-overflow_add-result
 overflow_add-result c = search rules
 
-shape_of-slots-in-Refused : tie.Need-shape_of-slots-in-Refused
-shape_of-slots-in-Refused c = search rules
+shape_of-slots-in-Err : tie.Need-shape_of-slots-in-Err
+shape_of-slots-in-Err c = search rules
 
-returns-in-Refused : tie.Need-returns-in-Refused
+returns-in-Err : tie.Need-returns-in-Err
 unfolding done_is
-returns-in-Refused c =
-    rw c.unchanged.ensures (push-over (array_at c.requires.0 c.requires.1 c.read_header-h.ensures) c.push_bytes.ensures (charge-over _ _ c.charge.ensures c.in-Refused.is))
+returns-in-Err c =
+    rw c.unchanged.ensures (push-over (array_at c.requires.0 c.requires.1 c.read_header-h.ensures) c.push_bytes.ensures (charge-over _ _ c.charge.ensures c.in-Err.is))
 
 shape_of-slots-else-cells-heap : tie.Need-shape_of-slots-else-cells-heap
 shape_of-slots-else-cells-heap c = search rules
@@ -77,7 +77,7 @@ shape_of-cells c = search rules
 returns-else-cells-heap : tie.Need-returns-else-cells-heap
 unfolding done_is
 returns-else-cells-heap c =
-    push-done (array_at c.requires.0 c.requires.1 c.read_header-h.ensures) c.push_size-size.ensures c.if-cells-heap.false c.push_grown-top.ensures c.push_bytes.ensures (charge-next _ _ c.charge.ensures c.in-Next.is)
+    push-done (array_at c.requires.0 c.requires.1 c.read_header-h.ensures) c.push_size-size.ensures c.if-cells-heap.false c.push_grown-top.ensures c.push_bytes.ensures (charge-next _ _ c.charge.ensures c.in-Ok.is)
 
 pub push_at_spec : {M : Type 1} → statement M
 push_at_spec =
@@ -97,8 +97,8 @@ push_at_spec =
     returns-then-cells-heap
     push_grown-top-requires
     overflow_add-result
-    shape_of-slots-in-Refused
-    returns-in-Refused
+    shape_of-slots-in-Err
+    returns-in-Err
     shape_of-slots-else-cells-heap
     shape_of-directory
     shape_of-cells

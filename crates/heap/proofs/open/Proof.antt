@@ -29,8 +29,8 @@ read_layout-requires c κs = search rules
 enum_told-1 : tie.Need-enum_told-1
 enum_told-1 c = search rules
 
-enum_told-in-Accepted : tie.Need-enum_told-in-Accepted
-enum_told-in-Accepted c = search rules
+enum_told-in-Ok : tie.Need-enum_told-in-Ok
+enum_told-in-Ok c = search rules
 
 clear_marks-requires : tie.Need-clear_marks-requires
 clear_marks-requires c κs = (room_so _ _ _ _ _ _ _ (sym c.has_room.ensures ∙ not-false _ c.if-not-has_room.false-raw)).marks_fit
@@ -44,14 +44,14 @@ clear_order-requires c κs = (room_so _ _ _ _ _ _ _ (sym c.has_room.ensures ∙ 
 new_heap-requires : tie.Need-new_heap-requires
 new_heap-requires c κs = search rules
 
-shape_of-table-in-Refused : tie.Need-shape_of-table-in-Refused
-shape_of-table-in-Refused c = search rules
+shape_of-table-in-Err : tie.Need-shape_of-table-in-Err
+shape_of-table-in-Err c = search rules
 
-returns-in-Refused : tie.Need-returns-in-Refused
-returns-in-Refused c = opens-unread c.read_layout.ensures c.in-Refused.is
+returns-in-Err : tie.Need-returns-in-Err
+returns-in-Err c = opens-unread c.read_layout.ensures (rw c.in-Err.is)
 
-shape_of-table-in-Accepted : tie.Need-shape_of-table-in-Accepted
-shape_of-table-in-Accepted c = search rules
+shape_of-table-in-Ok : tie.Need-shape_of-table-in-Ok
+shape_of-table-in-Ok c = search rules
 
 shape_of-marks : tie.Need-shape_of-marks
 shape_of-marks c = search rules
@@ -59,9 +59,9 @@ shape_of-marks c = search rules
 shape_of-order : tie.Need-shape_of-order
 shape_of-order c = search rules
 
-returns-in-Accepted : tie.Need-returns-in-Accepted
+returns-in-Ok : tie.Need-returns-in-Ok
 unfolding sizes_fit
-returns-in-Accepted c = rw c.new_heap.ensures (opens-accepted (opening_of c.args.size (length c.args.cells.now) c.args.limit c.args.weights c.args.layout.now) _ _ _ _ _ (beside c.args.table.now c.args.marks.now c.args.order.now) (sym c.sizes_fit.ensures ∙ not-false _ c.if-not-sizes_fit.false-raw) refl (sym c.has_room.ensures ∙ not-false _ c.if-not-has_room.false-raw) c.read_layout.ensures c.in-Accepted.is c.clear_marks.ensures c.clear_order.ensures)
+returns-in-Ok c = rw c.new_heap.ensures (opens-accepted (opening_of c.args.size (length c.args.cells.now) c.args.limit c.args.weights c.args.layout.now) _ _ _ _ _ (beside c.args.table.now c.args.marks.now c.args.order.now) (sym c.sizes_fit.ensures ∙ not-false _ c.if-not-sizes_fit.false-raw) refl (sym c.has_room.ensures ∙ not-false _ c.if-not-has_room.false-raw) c.read_layout.ensures (rw c.in-Ok.is) c.clear_marks.ensures c.clear_order.ensures)
 
 pub open_spec : {M : Type 1} → statement M
 open_spec =
@@ -73,14 +73,14 @@ open_spec =
     returns-then-not-has_room
     read_layout-requires
     enum_told-1
-    enum_told-in-Accepted
+    enum_told-in-Ok
     clear_marks-requires
     overflow_mul-n
     clear_order-requires
     new_heap-requires
-    shape_of-table-in-Refused
-    returns-in-Refused
-    shape_of-table-in-Accepted
+    shape_of-table-in-Err
+    returns-in-Err
+    shape_of-table-in-Ok
     shape_of-marks
     shape_of-order
-    returns-in-Accepted)
+    returns-in-Ok)

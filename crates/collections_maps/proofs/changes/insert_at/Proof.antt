@@ -35,8 +35,8 @@ charge-requires c κs = search rules
 enum_told-1 : tie.Need-enum_told-1
 enum_told-1 c = search rules
 
-unchanged-requires-in-Refused : tie.Need-unchanged-requires-in-Refused
-unchanged-requires-in-Refused c κs = search rules
+unchanged-requires-in-Err : tie.Need-unchanged-requires-in-Err
+unchanged-requires-in-Err c κs = search rules
 
 enum_known-next : tie.Need-enum_known-next
 enum_known-next c = search rules
@@ -63,7 +63,7 @@ shape_of-cells-then-cells-heap c = search rules
 returns-then-cells-heap : tie.Need-returns-then-cells-heap
 unfolding done_is
 returns-then-cells-heap c =
-    rw c.unchanged-then-cells-heap.ensures (insertion_full c.requires.0 c.requires.1 c.insertion_of-p.ensures c.if-s-ge4294967296.false (charge-next _ _ c.charge.ensures c.in-Next.is).0 c.if-cells-heap.true)
+    rw c.unchanged-then-cells-heap.ensures (insertion_full c.requires.0 c.requires.1 c.insertion_of-p.ensures c.if-s-ge4294967296.false (charge-next _ _ c.charge.ensures c.in-Ok.is).0 c.if-cells-heap.true)
 
 insert_grown-top-requires : tie.Need-insert_grown-top-requires
 insert_grown-top-requires c κs =
@@ -72,22 +72,22 @@ insert_grown-top-requires c κs =
 overflow_add-result : tie.Need-overflow_add-result
 overflow_add-result c = search rules
 
-shape_of-slots-in-Refused : tie.Need-shape_of-slots-in-Refused
-shape_of-slots-in-Refused c = search rules
+shape_of-slots-in-Err : tie.Need-shape_of-slots-in-Err
+shape_of-slots-in-Err c = search rules
 
-shape_of-scalars-in-Refused : tie.Need-shape_of-scalars-in-Refused
-shape_of-scalars-in-Refused c = search rules
+shape_of-scalars-in-Err : tie.Need-shape_of-scalars-in-Err
+shape_of-scalars-in-Err c = search rules
 
-shape_of-directory-in-Refused : tie.Need-shape_of-directory-in-Refused
-shape_of-directory-in-Refused c = search rules
+shape_of-directory-in-Err : tie.Need-shape_of-directory-in-Err
+shape_of-directory-in-Err c = search rules
 
-shape_of-cells-in-Refused : tie.Need-shape_of-cells-in-Refused
-shape_of-cells-in-Refused c = search rules
+shape_of-cells-in-Err : tie.Need-shape_of-cells-in-Err
+shape_of-cells-in-Err c = search rules
 
-returns-in-Refused : tie.Need-returns-in-Refused
+returns-in-Err : tie.Need-returns-in-Err
 unfolding done_is
-returns-in-Refused c =
-    rw c.unchanged-in-Refused.ensures (insertion_over c.requires.0 c.requires.1 c.insertion_of-p.ensures c.if-s-ge4294967296.false (charge-over _ _ c.charge.ensures c.in-Refused.is))
+returns-in-Err c =
+    rw c.unchanged-in-Err.ensures (insertion_over c.requires.0 c.requires.1 c.insertion_of-p.ensures c.if-s-ge4294967296.false (charge-over _ _ c.charge.ensures c.in-Err.is))
 
 shape_of-slots-else-cells-heap : tie.Need-shape_of-slots-else-cells-heap
 shape_of-slots-else-cells-heap c = search rules
@@ -104,7 +104,7 @@ shape_of-cells-else-cells-heap c = search rules
 returns-else-cells-heap : tie.Need-returns-else-cells-heap
 unfolding done_is
 returns-else-cells-heap c =
-    insertion_done c.requires.0 c.requires.1 c.insertion_of-p.ensures c.if-s-ge4294967296.false c.if-cells-heap.false c.insert_grown-top.ensures (charge-next _ _ c.charge.ensures c.in-Next.is)
+    insertion_done c.requires.0 c.requires.1 c.insertion_of-p.ensures c.if-s-ge4294967296.false c.if-cells-heap.false c.insert_grown-top.ensures (charge-next _ _ c.charge.ensures c.in-Ok.is)
 
 pub insert_at_spec : {M : Type 1} → statement M
 insert_at_spec =
@@ -119,7 +119,7 @@ insert_at_spec =
     returns-then-s-ge4294967296
     charge-requires
     enum_told-1
-    unchanged-requires-in-Refused
+    unchanged-requires-in-Err
     enum_known-next
     overflow_sub-cells
     unchanged-requires-then-cells-heap
@@ -130,11 +130,11 @@ insert_at_spec =
     returns-then-cells-heap
     insert_grown-top-requires
     overflow_add-result
-    shape_of-slots-in-Refused
-    shape_of-scalars-in-Refused
-    shape_of-directory-in-Refused
-    shape_of-cells-in-Refused
-    returns-in-Refused
+    shape_of-slots-in-Err
+    shape_of-scalars-in-Err
+    shape_of-directory-in-Err
+    shape_of-cells-in-Err
+    returns-in-Err
     shape_of-slots-else-cells-heap
     shape_of-scalars-else-cells-heap
     shape_of-directory-else-cells-heap

@@ -27,8 +27,8 @@ from_char-requires c κs = search rules
 number-requires-in-97 : tie.Need-number-requires-in-97
 number-requires-in-97 c κs = search rules
 
-float_of_bits-requires : tie.Need-float_of_bits-requires
-float_of_bits-requires c κs = search rules
+f64_from_bits_with_nan-requires : tie.Need-f64_from_bits_with_nan-requires
+f64_from_bits_with_nan-requires c κs = search rules
 
 from_f64-requires : tie.Need-from_f64-requires
 from_f64-requires c κs = search rules
@@ -79,7 +79,7 @@ returns-in-97 c = rw c.in-97.is (λ s t. char_read _ c.from_char.ensures c.numbe
 
 returns-in-98 : tie.Need-returns-in-98
 unfolding act_in choose word_rows
-returns-in-98 c = rw c.in-98.is (λ s t. float_read _ (c.from_f64.ensures ∙ ap (λ (f : Float). word_of_float f) c.float_of_bits.ensures) c.number-in-98.ensures refl s)
+returns-in-98 c = rw c.in-98.is (λ s t. float_read _ (c.from_f64.ensures ∙ ap (λ (f : Float). word_of_float f) c.f64_from_bits_with_nan.ensures) c.number-in-98.ensures refl s)
 
 returns-in-99 : tie.Need-returns-in-99
 unfolding act_in choose word_rows
@@ -111,7 +111,7 @@ word_call_spec =
     overflow_cast-o
     from_char-requires
     number-requires-in-97
-    float_of_bits-requires
+    f64_from_bits_with_nan-requires
     from_f64-requires
     number-requires-in-98
     signed_of-requires
