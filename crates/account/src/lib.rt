@@ -2,7 +2,7 @@
 #![tactic(auto)]
 
 ghost use Rattle.std.specs.Prelude.{◌≡◌};
-ghost use Rattle.account.specs.Account.{new_account, fits, charge_is, charge_of, wants_collection, after_sweep};
+ghost use Rattle.account.specs.Account.{new_account, fits, fits_of, charge_is, charge_of, wants_collection, after_sweep};
 
 #[derive(Clone, Copy, Debug, PartialEq, Eq)]
 pub struct Account {
@@ -10,6 +10,13 @@ pub struct Account {
     pub since: u64,
     pub threshold: u64,
     pub limit: u64,
+}
+
+// Whether a charge would be accepted, with the account afterwards: asking changes nothing.
+#[derive(Clone, Copy, Debug, PartialEq, Eq)]
+pub struct Answered {
+    pub next: Account,
+    pub fits: bool,
 }
 
 // A charge that would exceed the limit.
@@ -31,10 +38,19 @@ impl Account {
     }
 
     #[tactic(auto, unfolding(crate::specs::Account::saturated, crate::specs::Account::fits))]
-    pub fn fits(&self, bytes: u64) -> bool
+    pub fn allows(&self, bytes: u64) -> bool
         ensures { result ≡ fits self.now bytes }
     {
         self.used.saturating_add(bytes) <= self.limit
+    }
+
+    pub fn fits(self, bytes: u64) -> Answered
+        ensures { result ≡ fits_of self bytes }
+    {
+        Answered {
+            next: self,
+            fits: self.allows(bytes),
+        }
     }
 
     #[tactic(auto, unfolding(crate::specs::Account::saturated, crate::specs::Account::fits, crate::specs::Account::charged, crate::specs::Account::charge_of))]

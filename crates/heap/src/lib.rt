@@ -280,7 +280,7 @@ pub fn fits(
     requires { Good (state heap slots.now scalars.now list.now directory.now cells.now) }
     ensures { Reads (Calls.fits_bytes bytes) (state heap slots.now scalars.now list.now directory.now cells.now) (answered (truth result)) }
 {
-    heap.account.fits(bytes)
+    heap.account.allows(bytes)
 }
 
 // Whether a collection is due before `extra` bytes more.

@@ -15,7 +15,7 @@ use heap_slots::{Header, limits};
 pub fn judge_new(heap: Heap, total: u64, bytes: u64, size: u64) -> Done
     ensures { result ≡ judged_new heap total bytes size }
 {
-    if !heap.account.fits(bytes) {
+    if !heap.account.allows(bytes) {
         return Done::Refused(Refusal::OverBudget);
     }
     if heap.free == 0 {

@@ -262,7 +262,7 @@ pub fn store_item(
     match lookup::locate(slots, heap.fresh, w, kinds::ARRAY) {
         Located::Refused(q) => Done::Refused(q),
         Located::At(at) => {
-            if !heap.account.fits(0) {
+            if !heap.account.allows(0) {
                 return Done::Refused(Refusal::OverBudget);
             }
             let h = heap_slots::read_header(slots, at);

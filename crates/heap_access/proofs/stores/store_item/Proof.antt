@@ -24,19 +24,19 @@ enum_known-q c = search rules
 enum_known-at : tie.Need-enum_known-at
 enum_known-at c = search rules
 
-fits-requires : tie.Need-fits-requires
-fits-requires c κs = search rules
+allows-requires : tie.Need-allows-requires
+allows-requires c κs = search rules
 
-returns-then-not-fits : tie.Need-returns-then-not-fits
+returns-then-not-allows : tie.Need-returns-then-not-allows
 unfolding done_is
-returns-then-not-fits c = item-over _ _ c.requires c.locate.ensures c.in-At.is c.fits.ensures (not-true _ c.if-not-fits.true-raw)
+returns-then-not-allows c = item-over _ _ c.requires c.locate.ensures c.in-At.is c.allows.ensures (not-true _ c.if-not-allows.true-raw)
 
 read_header-h-requires : tie.Need-read_header-h-requires
 read_header-h-requires c κs = located_fits c.requires c.locate.ensures c.in-At.is
 
 returns-then-h-i : tie.Need-returns-then-h-i
 unfolding done_is
-returns-then-h-i c = item-outside _ _ c.requires c.locate.ensures c.in-At.is c.fits.ensures (not-false _ c.if-not-fits.false-raw) (omega (arith, c.well_formed.0)) (omega (arith, c.well_formed.0)) c.read_header-h.ensures c.if-h-i.true
+returns-then-h-i c = item-outside _ _ c.requires c.locate.ensures c.in-At.is c.allows.ensures (not-false _ c.if-not-allows.false-raw) (omega (arith, c.well_formed.0)) (omega (arith, c.well_formed.0)) c.read_header-h.ensures c.if-h-i.true
 
 overflow_add-p : tie.Need-overflow_add-p
 overflow_add-p c = omega (arith, words-place (words-fit c.requires item-words) c.locate.ensures c.in-At.is c.read_header-h.ensures c.if-h-i.false)
@@ -56,7 +56,7 @@ shape_of-cells c = search rules
 
 returns-else-h-i : tie.Need-returns-else-h-i
 unfolding done_is
-returns-else-h-i c = item_stored _ _ c.requires c.locate.ensures c.in-At.is c.fits.ensures (not-false _ c.if-not-fits.false-raw) (omega (arith, c.well_formed.0)) (omega (arith, c.well_formed.0)) c.read_header-h.ensures c.if-h-i.false
+returns-else-h-i c = item_stored _ _ c.requires c.locate.ensures c.in-At.is c.allows.ensures (not-false _ c.if-not-allows.false-raw) (omega (arith, c.well_formed.0)) (omega (arith, c.well_formed.0)) c.read_header-h.ensures c.if-h-i.false
 
 pub store_item_spec : {M : Type 1} → statement M
 store_item_spec =
@@ -65,8 +65,8 @@ store_item_spec =
     locate-requires
     enum_known-q
     enum_known-at
-    fits-requires
-    returns-then-not-fits
+    allows-requires
+    returns-then-not-allows
     read_header-h-requires
     returns-then-h-i
     overflow_add-p
