@@ -2,7 +2,6 @@
 // line for each command.
 #![tactic(auto)]
 
-use sheet::Printed;
 use std::io;
 
 fn main(rt: HostRuntime) -> io::Result<()> {
@@ -10,7 +9,7 @@ fn main(rt: HostRuntime) -> io::Result<()> {
     let n = streams::read_full(&mut rt.stdin(), &mut input)?;
     let mut out = sheet::text_buffer();
     match sheet::run(&input[..n], &mut out) {
-        Printed::Text(end) => rt.write_all(&out[..end]),
-        Printed::Short => Ok(()),
+        Some(end) => rt.write_all(&out[..end]),
+        None => Ok(()),
     }
 }

@@ -1,4 +1,5 @@
 -- Demand 3 of every list of calls that a caller makes of the library, from an accepted opening on.
+use Rattle.std.proofs.Common.{Result, Ok, Err}
 use Prim.Native.Nat.{ℕ}
 use mathlib.Core.Path.{◌≡◌, ap, refl, subst, sym, ◌∙◌}
 use mathlib.Core.Bool.{Bool, true, false}
@@ -15,8 +16,7 @@ use Rattle.history.proofs.Lift.{call, seen, start}
 use Rattle.heap.specs.State.{State, model_of, with_heap}
 use Rattle.heap.specs.Promise.{Does}
 use Rattle.heap.specs.declared.Heap.{Heap}
-use Rattle.heap.specs.declared.Opened.{Opened}
-use Rattle.heap.specs.declared.Opened.TheVariants.{Ready, Refused}
+use Rattle.heap.specs.declared.Refusal.{Refusal}
 use Rattle.heap.specs.declared.Refusal.TheVariants.{BadOpening}
 use Rattle.heap.specs.Opens.{Beside, accepts, opened_by}
 use Rattle.heap.proofs.WholeLaws.{Made, heap-demand_3, heap_shut_out}
@@ -61,24 +61,24 @@ module _ {o : Opening} {t : State} {x y : Beside} {before after : List ℕ} (p :
   abbrev opened : State
   opened = with_heap t (loaded after)
 
-  abbrev heap_of : Opened → Heap
-  heap_of (Ready h) = h
-  heap_of (Refused q) = t.heap
+  abbrev heap_of : Result Heap Refusal → Heap
+  heap_of (Ok h) = h
+  heap_of (Err q) = t.heap
 
   opened-model : open_heap o ≡ some (model_of (layout_of o.layout) opened)
   opened-model = go (accepts o t x) refl
     where
-      answer : (b : Bool) → accepts o t x ≡ b → Ready (loaded after) ≡ opened_by b t.heap
+      answer : (b : Bool) → accepts o t x ≡ b → ◌≡◌ {A = Result Heap Refusal} (Ok (loaded after)) (opened_by b t.heap)
       answer b e =
-          let h : Ready (loaded after) ≡ opened_by (accepts o t x) t.heap = (unfold opened_in in p.opens.answer) in
+          let h : ◌≡◌ {A = Result Heap Refusal} (Ok (loaded after)) (opened_by (accepts o t x) t.heap) = (unfold opened_in in p.opens.answer) in
           h ∙ ap (λ (c : Bool). opened_by c t.heap) e
 
       go : (b : Bool) → accepts o t x ≡ b → open_heap o ≡ some (model_of (layout_of o.layout) opened)
       go true e =
-          let q : Ready (loaded after) ≡ Ready t.heap = (unfold opened_by in answer true e) in
+          let q : ◌≡◌ {A = Result Heap Refusal} (Ok (loaded after)) (Ok t.heap) = (unfold opened_by in answer true e) in
           let h : loaded after ≡ t.heap = ap heap_of q in
           subst (λ (g : Heap). open_heap o ≡ some (model_of (layout_of o.layout) (with_heap t g))) (sym h) (p.opens.accepted e).model
-      go false e = let z : Ready (loaded after) ≡ Refused BadOpening = (unfold opened_by in answer false e) in let n : ◌≡◌ {A = ℕ} 0 1 = cc in absurd (omega arith)
+      go false e = let z : ◌≡◌ {A = Result Heap Refusal} (Ok (loaded after)) (Err BadOpening) = (unfold opened_by in answer false e) in let n : ◌≡◌ {A = ℕ} 0 1 = cc in absurd (omega arith)
 
   -- so demand 3 holds of every session that follows it
   pub since-opening : {a : State} {ks : List Call} {xs : List Sight} → Session (layout_of o.layout) opened ks xs a → LibraryDemand3 (layout_of o.layout) ks xs a

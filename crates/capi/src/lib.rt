@@ -14,14 +14,15 @@ ghost use Rattle.model.specs.Rules as Parts;
 ghost use Rattle.heap.specs.Good.{Good, Rested};
 ghost use Rattle.heap.specs.State.{state};
 ghost use Rattle.heap.specs.Kinds.{frames_in};
+ghost use Rattle.heap.specs.View.{held};
 ghost use Rattle.heap.specs.Opens.{beside, new_heap, opening_of};
 ghost use Rattle.heap_allocation.specs.Coroutines.{call_of};
 ghost use Rattle.heap_record.specs.Record.{OpensWords, loaded, weights_in};
 ghost use Rattle.capi.specs.Record.{coroutine_in, cursor_in, cursor_out, shown_in, yes};
 ghost use Rattle.capi.specs.Promise.{Delivers, DeliversSame, ShowsList, Words, holds};
 
-use answers::Shown;
-use heap::Heap;
+use answers::{Show, Shown};
+use heap::HeapView;
 use heap_allocation::Coroutine;
 use layout::ReadLayout;
 use map_store::Cursor;
@@ -53,19 +54,10 @@ fn load_coroutine(words: &[u64; 6]) -> Coroutine
 fn load_cursor(words: &[u64; 4]) -> Cursor
     ensures { cursor_is result ≡ cursor_in words.now }
 {
-    let pos = words[2] as usize;
-    let epoch = (words[3] % 4294967296) as u32;
-    if words[0] == 0 {
-        return Cursor {
-            last: None,
-            pos,
-            epoch,
-        };
-    }
     Cursor {
-        last: Some(words[1]),
-        pos,
-        epoch,
+        last: if words[0] == 0 { None } else { Some(words[1]) },
+        pos: words[2] as usize,
+        epoch: (words[3] % 4294967296) as u32,
     }
 }
 
@@ -78,6 +70,28 @@ fn save_cursor(words: &mut [u64; 4], s: Shown)
     }
 }
 
+// The heap that the words and the buffers hold.
+fn lent_view<'a>(
+    heap: &[u64; 19],
+    slots: &'a [u64],
+    scalars: &'a [u64],
+    list: &'a [u64],
+    directory: &'a [u64],
+    cells: &'a [u64],
+) -> HeapView<'a>
+    requires { Good (holds heap.now slots.now scalars.now list.now directory.now cells.now) }
+    ensures { held result ≡ holds heap.now slots.now scalars.now list.now directory.now cells.now }
+{
+    HeapView {
+        heap: heap_record::load(heap),
+        slots,
+        scalars,
+        list,
+        directory,
+        cells,
+    }
+}
+
 // ---- words: writing, reading, comparing; no heap is needed
 
 // The word of a truth value: no for 0, else yes.
@@ -85,7 +99,7 @@ fn save_cursor(words: &mut [u64; 4], s: Shown)
 pub extern "C" fn mch_truth_word(b: u64, answer: &mut [u64; 6]) -> u64
     ensures { Words (Calls.truth_word (yes b)) result answer.new }
 {
-    write_answer(answer, answers::number(words::from_bool(b != 0)))
+    write_answer(answer, words::from_bool(b != 0).show())
 }
 
 // The word of a character.
@@ -93,7 +107,7 @@ pub extern "C" fn mch_truth_word(b: u64, answer: &mut [u64; 6]) -> u64
 pub extern "C" fn mch_char_word(c: u32, answer: &mut [u64; 6]) -> u64
     ensures { Words (Calls.char_word c) result answer.new }
 {
-    write_answer(answer, answers::number(words::from_char(c)))
+    write_answer(answer, words::from_char(c).show())
 }
 
 // The word of the float of a binary64 pattern; every NaN has one word.
@@ -101,8 +115,7 @@ pub extern "C" fn mch_char_word(c: u32, answer: &mut [u64; 6]) -> u64
 pub extern "C" fn mch_float_word(bits: u64, answer: &mut [u64; 6]) -> u64
     ensures { Words (Calls.float_word (of_bits binary64 bits)) result answer.new }
 {
-    let f = f64_from_bits_with_nan(bits);
-    write_answer(answer, answers::number(words::from_f64(f)))
+    write_answer(answer, words::from_f64(f64_from_bits_with_nan(bits)).show())
 }
 
 // The word of an integer, where it has one inline.
@@ -110,8 +123,7 @@ pub extern "C" fn mch_float_word(bits: u64, answer: &mut [u64; 6]) -> u64
 pub extern "C" fn mch_integer_word(z: i64, answer: &mut [u64; 6]) -> u64
     ensures { Words (Calls.integer_word z) result answer.new }
 {
-    let w = words::inline_int(z);
-    write_answer(answer, answers::inline(w))
+    write_answer(answer, answers::inline(words::inline_int(z)))
 }
 
 // The word of a reference.
@@ -119,7 +131,7 @@ pub extern "C" fn mch_integer_word(z: i64, answer: &mut [u64; 6]) -> u64
 pub extern "C" fn mch_reference_word(slot: u32, tag: u16, answer: &mut [u64; 6]) -> u64
     ensures { Words (Calls.reference_word slot tag) result answer.new }
 {
-    write_answer(answer, answers::number(words::from_ref(slot, tag)))
+    write_answer(answer, words::from_ref(slot, tag).show())
 }
 
 // What a word reads as.
@@ -127,8 +139,7 @@ pub extern "C" fn mch_reference_word(slot: u32, tag: u16, answer: &mut [u64; 6])
 pub extern "C" fn mch_read_word(w: u64, answer: &mut [u64; 6]) -> u64
     ensures { Words (Calls.read_word w) result answer.new }
 {
-    let a = words::decode(w);
-    write_answer(answer, answers::raw(a))
+    write_answer(answer, words::decode(w).show())
 }
 
 // Whether two words read as the same.
@@ -136,7 +147,7 @@ pub extern "C" fn mch_read_word(w: u64, answer: &mut [u64; 6]) -> u64
 pub extern "C" fn mch_same_words(a: u64, b: u64, answer: &mut [u64; 6]) -> u64
     ensures { Words (Calls.same_words a b) result answer.new }
 {
-    write_answer(answer, answers::flag(words::same(a, b)))
+    write_answer(answer, words::same(a, b).show())
 }
 
 // ---- the heap as a whole
@@ -182,12 +193,10 @@ pub extern "C" fn mch_charge(
     requires { Good (holds heap.old slots.now scalars.now list.now directory.now cells.now) }
     ensures { Delivers (Calls.charge bytes) (holds heap.old slots.now scalars.now list.now directory.now cells.now) result answer.new (holds heap.new slots.now scalars.now list.now directory.now cells.now) }
 {
-    let h = heap_record::load(heap);
-    let a = heap::charge(h, slots, scalars, list, directory, cells, bytes);
-    let next = a.heap;
-    heap_record::save(heap, next);
-    let done = a.done;
-    write_answer(answer, answers::done(done))
+    let mut h = heap_record::load(heap);
+    let done = heap::charge(&mut h, slots, scalars, list, directory, cells, bytes);
+    heap_record::save(heap, h);
+    write_answer(answer, answers::answer(done))
 }
 
 // Whether a charge of `bytes` would be accepted.
@@ -205,9 +214,8 @@ pub extern "C" fn mch_fits(
     requires { Good (holds heap.now slots.now scalars.now list.now directory.now cells.now) }
     ensures { DeliversSame (Calls.fits_bytes bytes) (holds heap.now slots.now scalars.now list.now directory.now cells.now) result answer.new }
 {
-    let h = heap_record::load(heap);
-    let a = heap::fits(h, slots, scalars, list, directory, cells, bytes);
-    write_answer(answer, answers::flag(a))
+    let view = lent_view(heap, slots, scalars, list, directory, cells);
+    write_answer(answer, heap::fits(&view, bytes).show())
 }
 
 // Whether a collection is due before `extra` bytes more.
@@ -225,9 +233,8 @@ pub extern "C" fn mch_wants_gc(
     requires { Good (holds heap.now slots.now scalars.now list.now directory.now cells.now) }
     ensures { DeliversSame (Calls.wants_gc extra) (holds heap.now slots.now scalars.now list.now directory.now cells.now) result answer.new }
 {
-    let h = heap_record::load(heap);
-    let a = heap::wants_gc(h, slots, scalars, list, directory, cells, extra);
-    write_answer(answer, answers::flag(a))
+    let view = lent_view(heap, slots, scalars, list, directory, cells);
+    write_answer(answer, heap::wants_gc(&view, extra).show())
 }
 
 // How many collections there have been.
@@ -244,9 +251,8 @@ pub extern "C" fn mch_collection_count(
     requires { Good (holds heap.now slots.now scalars.now list.now directory.now cells.now) }
     ensures { DeliversSame Calls.collection_count (holds heap.now slots.now scalars.now list.now directory.now cells.now) result answer.new }
 {
-    let h = heap_record::load(heap);
-    let a = heap::collection_count(h, slots, scalars, list, directory, cells);
-    write_answer(answer, answers::number(a))
+    let view = lent_view(heap, slots, scalars, list, directory, cells);
+    write_answer(answer, heap::collection_count(&view).show())
 }
 
 // How many objects the collections have freed.
@@ -263,9 +269,8 @@ pub extern "C" fn mch_freed_count(
     requires { Good (holds heap.now slots.now scalars.now list.now directory.now cells.now) }
     ensures { DeliversSame Calls.freed_count (holds heap.now slots.now scalars.now list.now directory.now cells.now) result answer.new }
 {
-    let h = heap_record::load(heap);
-    let a = heap::freed_count(h, slots, scalars, list, directory, cells);
-    write_answer(answer, answers::number(a))
+    let view = lent_view(heap, slots, scalars, list, directory, cells);
+    write_answer(answer, heap::freed_count(&view).show())
 }
 
 // The bytes charged and not freed.
@@ -282,9 +287,8 @@ pub extern "C" fn mch_used_bytes(
     requires { Good (holds heap.now slots.now scalars.now list.now directory.now cells.now) }
     ensures { DeliversSame Calls.used_bytes (holds heap.now slots.now scalars.now list.now directory.now cells.now) result answer.new }
 {
-    let h = heap_record::load(heap);
-    let a = heap::used_bytes(h, slots, scalars, list, directory, cells);
-    write_answer(answer, answers::number(a))
+    let view = lent_view(heap, slots, scalars, list, directory, cells);
+    write_answer(answer, heap::used_bytes(&view).show())
 }
 
 // How many objects are present.
@@ -301,9 +305,8 @@ pub extern "C" fn mch_present_count(
     requires { Good (holds heap.now slots.now scalars.now list.now directory.now cells.now) }
     ensures { DeliversSame Calls.present_count (holds heap.now slots.now scalars.now list.now directory.now cells.now) result answer.new }
 {
-    let h = heap_record::load(heap);
-    let a = heap::present_count(h, slots, scalars, list, directory, cells);
-    write_answer(answer, answers::number(a))
+    let view = lent_view(heap, slots, scalars, list, directory, cells);
+    write_answer(answer, heap::present_count(&view).show())
 }
 
 // The cells of the objects present.
@@ -320,9 +323,8 @@ pub extern "C" fn mch_cells_in_use(
     requires { Good (holds heap.now slots.now scalars.now list.now directory.now cells.now) }
     ensures { DeliversSame Calls.cells_in_use (holds heap.now slots.now scalars.now list.now directory.now cells.now) result answer.new }
 {
-    let h = heap_record::load(heap);
-    let a = heap::cells_in_use(h, slots, scalars, list, directory, cells);
-    write_answer(answer, answers::number(a))
+    let view = lent_view(heap, slots, scalars, list, directory, cells);
+    write_answer(answer, heap::cells_in_use(&view).show())
 }
 
 // A collection from these roots: answers the objects freed and the coroutines listed in `places`.
@@ -349,17 +351,24 @@ pub extern "C" fn mch_collect(
     ensures marks_unchanged { marks.new ≡ marks.old }
     ensures order_unchanged { order.new ≡ order.old }
 {
-    let h = heap_record::load(heap);
-    let read = ReadLayout {
-        bytes: layout,
-        table,
-    };
-    let a = collector::collect(
-        h, slots, scalars, list, directory, cells, read, marks, order, roots, places,
+    let mut h = heap_record::load(heap);
+    let collection = collector::collect(
+        &mut h,
+        slots,
+        scalars,
+        list,
+        directory,
+        cells,
+        ReadLayout {
+            bytes: layout,
+            table,
+        },
+        marks,
+        order,
+        roots,
+        places,
     );
-    let next = a.heap;
-    heap_record::save(heap, next);
-    let collection = a.answer;
+    heap_record::save(heap, h);
     write_answer(answer, answers::collected(collection))
 }
 
@@ -380,11 +389,9 @@ pub extern "C" fn mch_new_string(
     requires { Good (holds heap.old slots.old scalars.now list.now directory.old cells.old) }
     ensures { Delivers (Calls.new_string bytes.now) (holds heap.old slots.old scalars.now list.now directory.old cells.old) result answer.new (holds heap.new slots.new scalars.now list.now directory.new cells.new) }
 {
-    let h = heap_record::load(heap);
-    let a = heap_allocation::new_string(h, slots, scalars, list, directory, cells, bytes);
-    let next = a.heap;
-    heap_record::save(heap, next);
-    let made = a.answer;
+    let mut h = heap_record::load(heap);
+    let made = heap_allocation::new_string(&mut h, slots, scalars, list, directory, cells, bytes);
+    heap_record::save(heap, h);
     write_answer(answer, answers::made(made))
 }
 
@@ -403,11 +410,9 @@ pub extern "C" fn mch_new_integer(
     requires { Good (holds heap.old slots.old scalars.now list.now directory.now cells.now) }
     ensures { Delivers (Calls.new_integer z) (holds heap.old slots.old scalars.now list.now directory.now cells.now) result answer.new (holds heap.new slots.new scalars.now list.now directory.now cells.now) }
 {
-    let h = heap_record::load(heap);
-    let a = heap_allocation::new_integer(h, slots, scalars, list, directory, cells, z);
-    let next = a.heap;
-    heap_record::save(heap, next);
-    let made = a.answer;
+    let mut h = heap_record::load(heap);
+    let made = heap_allocation::new_integer(&mut h, slots, scalars, list, directory, cells, z);
+    heap_record::save(heap, h);
     write_answer(answer, answers::made(made))
 }
 
@@ -427,11 +432,9 @@ pub extern "C" fn mch_new_cell(
     requires { Good (holds heap.old slots.old scalars.now list.now directory.now cells.now) }
     ensures { Delivers (Calls.new_cell t w) (holds heap.old slots.old scalars.now list.now directory.now cells.now) result answer.new (holds heap.new slots.new scalars.now list.now directory.now cells.now) }
 {
-    let h = heap_record::load(heap);
-    let a = heap_allocation::new_cell(h, slots, scalars, list, directory, cells, t, w);
-    let next = a.heap;
-    heap_record::save(heap, next);
-    let made = a.answer;
+    let mut h = heap_record::load(heap);
+    let made = heap_allocation::new_cell(&mut h, slots, scalars, list, directory, cells, t, w);
+    heap_record::save(heap, h);
     write_answer(answer, answers::made(made))
 }
 
@@ -451,11 +454,9 @@ pub extern "C" fn mch_new_error(
     requires { Good (holds heap.old slots.old scalars.now list.now directory.now cells.now) }
     ensures { Delivers (Calls.new_error kind w) (holds heap.old slots.old scalars.now list.now directory.now cells.now) result answer.new (holds heap.new slots.new scalars.now list.now directory.now cells.now) }
 {
-    let h = heap_record::load(heap);
-    let a = heap_allocation::new_error(h, slots, scalars, list, directory, cells, kind, w);
-    let next = a.heap;
-    heap_record::save(heap, next);
-    let made = a.answer;
+    let mut h = heap_record::load(heap);
+    let made = heap_allocation::new_error(&mut h, slots, scalars, list, directory, cells, kind, w);
+    heap_record::save(heap, h);
     write_answer(answer, answers::made(made))
 }
 
@@ -474,11 +475,9 @@ pub extern "C" fn mch_new_box(
     requires { Good (holds heap.old slots.old scalars.now list.now directory.now cells.now) }
     ensures { Delivers (Calls.new_box w) (holds heap.old slots.old scalars.now list.now directory.now cells.now) result answer.new (holds heap.new slots.new scalars.now list.now directory.now cells.now) }
 {
-    let h = heap_record::load(heap);
-    let a = heap_allocation::new_box(h, slots, scalars, list, directory, cells, w);
-    let next = a.heap;
-    heap_record::save(heap, next);
-    let made = a.answer;
+    let mut h = heap_record::load(heap);
+    let made = heap_allocation::new_box(&mut h, slots, scalars, list, directory, cells, w);
+    heap_record::save(heap, h);
     write_answer(answer, answers::made(made))
 }
 
@@ -498,11 +497,11 @@ pub extern "C" fn mch_new_array(
     requires { Good (holds heap.old slots.old scalars.now list.now directory.old cells.old) }
     ensures { Delivers (Calls.new_array t length) (holds heap.old slots.old scalars.now list.now directory.old cells.old) result answer.new (holds heap.new slots.new scalars.now list.now directory.new cells.new) }
 {
-    let h = heap_record::load(heap);
-    let a = heap_allocation::new_array(h, slots, scalars, list, directory, cells, t, length);
-    let next = a.heap;
-    heap_record::save(heap, next);
-    let made = a.answer;
+    let mut h = heap_record::load(heap);
+    let made = heap_allocation::new_array(
+        &mut h, slots, scalars, list, directory, cells, t, length,
+    );
+    heap_record::save(heap, h);
     write_answer(answer, answers::made(made))
 }
 
@@ -522,13 +521,11 @@ pub extern "C" fn mch_new_map(
     requires { Good (holds heap.old slots.old scalars.old list.now directory.now cells.now) }
     ensures { Delivers (Calls.new_map keys values) (holds heap.old slots.old scalars.old list.now directory.now cells.now) result answer.new (holds heap.new slots.new scalars.new list.now directory.now cells.now) }
 {
-    let h = heap_record::load(heap);
-    let a = collections_maps::changes::new_map(
-        h, slots, scalars, list, directory, cells, keys, values,
+    let mut h = heap_record::load(heap);
+    let made = collections_maps::changes::new_map(
+        &mut h, slots, scalars, list, directory, cells, keys, values,
     );
-    let next = a.heap;
-    heap_record::save(heap, next);
-    let made = a.answer;
+    heap_record::save(heap, h);
     write_answer(answer, answers::made(made))
 }
 
@@ -548,11 +545,11 @@ pub extern "C" fn mch_new_struct(
     requires { Good (holds heap.old slots.old scalars.now list.now directory.old cells.old) }
     ensures { Delivers (Calls.new_struct number fields.now) (holds heap.old slots.old scalars.now list.now directory.old cells.old) result answer.new (holds heap.new slots.new scalars.now list.now directory.new cells.new) }
 {
-    let h = heap_record::load(heap);
-    let a = heap_allocation::new_struct(h, slots, scalars, list, directory, cells, number, fields);
-    let next = a.heap;
-    heap_record::save(heap, next);
-    let made = a.answer;
+    let mut h = heap_record::load(heap);
+    let made = heap_allocation::new_struct(
+        &mut h, slots, scalars, list, directory, cells, number, fields,
+    );
+    heap_record::save(heap, h);
     write_answer(answer, answers::made(made))
 }
 
@@ -573,9 +570,9 @@ pub extern "C" fn mch_new_function(
     requires { Good (holds heap.old slots.old scalars.now list.now directory.old cells.old) }
     ensures { Delivers (Calls.new_function (yes import) number captures.now) (holds heap.old slots.old scalars.now list.now directory.old cells.old) result answer.new (holds heap.new slots.new scalars.now list.now directory.new cells.new) }
 {
-    let h = heap_record::load(heap);
-    let a = heap_allocation::new_function(
-        h,
+    let mut h = heap_record::load(heap);
+    let made = heap_allocation::new_function(
+        &mut h,
         slots,
         scalars,
         list,
@@ -585,9 +582,7 @@ pub extern "C" fn mch_new_function(
         number,
         captures,
     );
-    let next = a.heap;
-    heap_record::save(heap, next);
-    let made = a.answer;
+    heap_record::save(heap, h);
     write_answer(answer, answers::made(made))
 }
 
@@ -606,11 +601,11 @@ pub extern "C" fn mch_new_iter(
     requires { Good (holds heap.old slots.old scalars.old list.now directory.now cells.now) }
     ensures { Delivers (Calls.new_iter source) (holds heap.old slots.old scalars.old list.now directory.now cells.now) result answer.new (holds heap.new slots.new scalars.new list.now directory.now cells.now) }
 {
-    let h = heap_record::load(heap);
-    let a = collections_iterators::new_iter(h, slots, scalars, list, directory, cells, source);
-    let next = a.heap;
-    heap_record::save(heap, next);
-    let made = a.answer;
+    let mut h = heap_record::load(heap);
+    let made = collections_iterators::new_iter(
+        &mut h, slots, scalars, list, directory, cells, source,
+    );
+    heap_record::save(heap, h);
     write_answer(answer, answers::made(made))
 }
 
@@ -632,14 +627,19 @@ pub extern "C" fn mch_new_coroutine(
     requires { Good (holds heap.old slots.old scalars.old list.now directory.old cells.old) }
     ensures { Delivers (call_of (coroutine_in k.now) registers.now (frames_in frames.now 0 (length frames.now / 4))) (holds heap.old slots.old scalars.old list.now directory.old cells.old) result answer.new (holds heap.new slots.new scalars.new list.now directory.new cells.new) }
 {
-    let h = heap_record::load(heap);
-    let made_with = load_coroutine(k);
-    let a = heap_allocation::new_coroutine_flat(
-        h, slots, scalars, list, directory, cells, made_with, registers, frames,
+    let mut h = heap_record::load(heap);
+    let made = heap_allocation::new_coroutine_flat(
+        &mut h,
+        slots,
+        scalars,
+        list,
+        directory,
+        cells,
+        load_coroutine(k),
+        registers,
+        frames,
     );
-    let next = a.heap;
-    heap_record::save(heap, next);
-    let made = a.answer;
+    heap_record::save(heap, h);
     write_answer(answer, answers::made(made))
 }
 
@@ -660,9 +660,8 @@ pub extern "C" fn mch_get(
     requires { Good (holds heap.now slots.now scalars.now list.now directory.now cells.now) }
     ensures { DeliversSame (Calls.get w) (holds heap.now slots.now scalars.now list.now directory.now cells.now) result answer.new }
 {
-    let h = heap_record::load(heap);
-    let a = heap::get(h, slots, scalars, list, directory, cells, w);
-    write_answer(answer, answers::number(a))
+    let view = lent_view(heap, slots, scalars, list, directory, cells);
+    write_answer(answer, heap::get(&view, w).show())
 }
 
 // A word seen through a box.
@@ -680,9 +679,8 @@ pub extern "C" fn mch_deref(
     requires { Good (holds heap.now slots.now scalars.now list.now directory.now cells.now) }
     ensures { DeliversSame (Calls.deref_word w) (holds heap.now slots.now scalars.now list.now directory.now cells.now) result answer.new }
 {
-    let h = heap_record::load(heap);
-    let a = heap::deref(h, slots, scalars, list, directory, cells, w);
-    write_answer(answer, answers::number(a))
+    let view = lent_view(heap, slots, scalars, list, directory, cells);
+    write_answer(answer, heap::deref(&view, w).show())
 }
 
 // The number of a word's kind.
@@ -700,9 +698,8 @@ pub extern "C" fn mch_kind_of(
     requires { Good (holds heap.now slots.now scalars.now list.now directory.now cells.now) }
     ensures { DeliversSame (Calls.kind_of_word w) (holds heap.now slots.now scalars.now list.now directory.now cells.now) result answer.new }
 {
-    let h = heap_record::load(heap);
-    let a = heap::kind_of(h, slots, scalars, list, directory, cells, w);
-    write_answer(answer, answers::kind(a))
+    let view = lent_view(heap, slots, scalars, list, directory, cells);
+    write_answer(answer, heap::kind_of(&view, w).show())
 }
 
 // The length of a string in bytes.
@@ -720,9 +717,11 @@ pub extern "C" fn mch_string_length(
     requires { Good (holds heap.now slots.now scalars.now list.now directory.now cells.now) }
     ensures { DeliversSame (Calls.string_length w) (holds heap.now slots.now scalars.now list.now directory.now cells.now) result answer.new }
 {
-    let h = heap_record::load(heap);
-    let a = heap_access::readings::string_length(h, slots, scalars, list, directory, cells, w);
-    write_answer(answer, answers::reading(a))
+    let view = lent_view(heap, slots, scalars, list, directory, cells);
+    write_answer(
+        answer,
+        answers::answer(heap_access::readings::string_length(&view, w)),
+    )
 }
 
 // A string's bytes, in the buffer's first places; 8 where the buffer is shorter.
@@ -741,11 +740,11 @@ pub extern "C" fn mch_read_string(
     requires { Good (holds heap.now slots.now scalars.now list.now directory.now cells.now) }
     ensures { (l : Layout) → ShowsList l (Calls.read_string w buffer.old) (holds heap.now slots.now scalars.now list.now directory.now cells.now) (shown_in result answer.new) buffer.new (holds heap.now slots.now scalars.now list.now directory.now cells.now) }
 {
-    let h = heap_record::load(heap);
-    let a = heap_access::readings::read_string(
-        h, slots, scalars, list, directory, cells, w, buffer,
-    );
-    write_answer(answer, answers::reading(a))
+    let view = lent_view(heap, slots, scalars, list, directory, cells);
+    write_answer(
+        answer,
+        answers::answer(heap_access::readings::read_string(&view, w, buffer)),
+    )
 }
 
 // An integer object's number.
@@ -763,9 +762,11 @@ pub extern "C" fn mch_read_integer(
     requires { Good (holds heap.now slots.now scalars.now list.now directory.now cells.now) }
     ensures { DeliversSame (Calls.read_integer w) (holds heap.now slots.now scalars.now list.now directory.now cells.now) result answer.new }
 {
-    let h = heap_record::load(heap);
-    let a = heap_access::readings::read_integer(h, slots, scalars, list, directory, cells, w);
-    write_answer(answer, answers::signed(a))
+    let view = lent_view(heap, slots, scalars, list, directory, cells);
+    write_answer(
+        answer,
+        answers::answer(heap_access::readings::read_integer(&view, w)),
+    )
 }
 
 // A cell's word.
@@ -783,9 +784,11 @@ pub extern "C" fn mch_read_cell(
     requires { Good (holds heap.now slots.now scalars.now list.now directory.now cells.now) }
     ensures { DeliversSame (Calls.read_cell w) (holds heap.now slots.now scalars.now list.now directory.now cells.now) result answer.new }
 {
-    let h = heap_record::load(heap);
-    let a = heap_access::readings::read_cell(h, slots, scalars, list, directory, cells, w);
-    write_answer(answer, answers::reading(a))
+    let view = lent_view(heap, slots, scalars, list, directory, cells);
+    write_answer(
+        answer,
+        answers::answer(heap_access::readings::read_cell(&view, w)),
+    )
 }
 
 // A cell's type.
@@ -803,9 +806,11 @@ pub extern "C" fn mch_cell_type(
     requires { Good (holds heap.now slots.now scalars.now list.now directory.now cells.now) }
     ensures { DeliversSame (Calls.cell_type w) (holds heap.now slots.now scalars.now list.now directory.now cells.now) result answer.new }
 {
-    let h = heap_record::load(heap);
-    let a = heap_access::readings::cell_type(h, slots, scalars, list, directory, cells, w);
-    write_answer(answer, answers::reading(a))
+    let view = lent_view(heap, slots, scalars, list, directory, cells);
+    write_answer(
+        answer,
+        answers::answer(heap_access::readings::cell_type(&view, w)),
+    )
 }
 
 // An error's kind.
@@ -823,9 +828,11 @@ pub extern "C" fn mch_error_kind(
     requires { Good (holds heap.now slots.now scalars.now list.now directory.now cells.now) }
     ensures { DeliversSame (Calls.error_kind w) (holds heap.now slots.now scalars.now list.now directory.now cells.now) result answer.new }
 {
-    let h = heap_record::load(heap);
-    let a = heap_access::readings::error_kind(h, slots, scalars, list, directory, cells, w);
-    write_answer(answer, answers::reading(a))
+    let view = lent_view(heap, slots, scalars, list, directory, cells);
+    write_answer(
+        answer,
+        answers::answer(heap_access::readings::error_kind(&view, w)),
+    )
 }
 
 // An error's word.
@@ -843,9 +850,11 @@ pub extern "C" fn mch_error_word(
     requires { Good (holds heap.now slots.now scalars.now list.now directory.now cells.now) }
     ensures { DeliversSame (Calls.error_word w) (holds heap.now slots.now scalars.now list.now directory.now cells.now) result answer.new }
 {
-    let h = heap_record::load(heap);
-    let a = heap_access::readings::error_word(h, slots, scalars, list, directory, cells, w);
-    write_answer(answer, answers::reading(a))
+    let view = lent_view(heap, slots, scalars, list, directory, cells);
+    write_answer(
+        answer,
+        answers::answer(heap_access::readings::error_word(&view, w)),
+    )
 }
 
 // A box's word.
@@ -863,9 +872,11 @@ pub extern "C" fn mch_read_box(
     requires { Good (holds heap.now slots.now scalars.now list.now directory.now cells.now) }
     ensures { DeliversSame (Calls.read_box w) (holds heap.now slots.now scalars.now list.now directory.now cells.now) result answer.new }
 {
-    let h = heap_record::load(heap);
-    let a = heap_access::readings::read_box(h, slots, scalars, list, directory, cells, w);
-    write_answer(answer, answers::reading(a))
+    let view = lent_view(heap, slots, scalars, list, directory, cells);
+    write_answer(
+        answer,
+        answers::answer(heap_access::readings::read_box(&view, w)),
+    )
 }
 
 // The type of an array's items.
@@ -883,9 +894,11 @@ pub extern "C" fn mch_array_type(
     requires { Good (holds heap.now slots.now scalars.now list.now directory.now cells.now) }
     ensures { DeliversSame (Calls.array_type w) (holds heap.now slots.now scalars.now list.now directory.now cells.now) result answer.new }
 {
-    let h = heap_record::load(heap);
-    let a = heap_access::readings::array_type(h, slots, scalars, list, directory, cells, w);
-    write_answer(answer, answers::reading(a))
+    let view = lent_view(heap, slots, scalars, list, directory, cells);
+    write_answer(
+        answer,
+        answers::answer(heap_access::readings::array_type(&view, w)),
+    )
 }
 
 // The length of an array.
@@ -903,9 +916,11 @@ pub extern "C" fn mch_array_length(
     requires { Good (holds heap.now slots.now scalars.now list.now directory.now cells.now) }
     ensures { DeliversSame (Calls.array_length w) (holds heap.now slots.now scalars.now list.now directory.now cells.now) result answer.new }
 {
-    let h = heap_record::load(heap);
-    let a = heap_access::readings::array_length(h, slots, scalars, list, directory, cells, w);
-    write_answer(answer, answers::reading(a))
+    let view = lent_view(heap, slots, scalars, list, directory, cells);
+    write_answer(
+        answer,
+        answers::answer(heap_access::readings::array_length(&view, w)),
+    )
 }
 
 // The capacity of an array.
@@ -923,9 +938,11 @@ pub extern "C" fn mch_array_capacity(
     requires { Good (holds heap.now slots.now scalars.now list.now directory.now cells.now) }
     ensures { DeliversSame (Calls.array_capacity w) (holds heap.now slots.now scalars.now list.now directory.now cells.now) result answer.new }
 {
-    let h = heap_record::load(heap);
-    let a = heap_access::readings::array_capacity(h, slots, scalars, list, directory, cells, w);
-    write_answer(answer, answers::reading(a))
+    let view = lent_view(heap, slots, scalars, list, directory, cells);
+    write_answer(
+        answer,
+        answers::answer(heap_access::readings::array_capacity(&view, w)),
+    )
 }
 
 // Item `i` of an array, as it was stored.
@@ -944,9 +961,11 @@ pub extern "C" fn mch_read_item(
     requires { Good (holds heap.now slots.now scalars.now list.now directory.now cells.now) }
     ensures { DeliversSame (Calls.read_item w i) (holds heap.now slots.now scalars.now list.now directory.now cells.now) result answer.new }
 {
-    let h = heap_record::load(heap);
-    let a = heap_access::readings::read_item(h, slots, scalars, list, directory, cells, w, i);
-    write_answer(answer, answers::reading(a))
+    let view = lent_view(heap, slots, scalars, list, directory, cells);
+    write_answer(
+        answer,
+        answers::answer(heap_access::readings::read_item(&view, w, i)),
+    )
 }
 
 // A struct's type.
@@ -964,9 +983,11 @@ pub extern "C" fn mch_struct_number(
     requires { Good (holds heap.now slots.now scalars.now list.now directory.now cells.now) }
     ensures { DeliversSame (Calls.struct_number w) (holds heap.now slots.now scalars.now list.now directory.now cells.now) result answer.new }
 {
-    let h = heap_record::load(heap);
-    let a = heap_access::readings::struct_number(h, slots, scalars, list, directory, cells, w);
-    write_answer(answer, answers::reading(a))
+    let view = lent_view(heap, slots, scalars, list, directory, cells);
+    write_answer(
+        answer,
+        answers::answer(heap_access::readings::struct_number(&view, w)),
+    )
 }
 
 // How many fields a struct has.
@@ -984,9 +1005,11 @@ pub extern "C" fn mch_field_count(
     requires { Good (holds heap.now slots.now scalars.now list.now directory.now cells.now) }
     ensures { DeliversSame (Calls.field_count w) (holds heap.now slots.now scalars.now list.now directory.now cells.now) result answer.new }
 {
-    let h = heap_record::load(heap);
-    let a = heap_access::readings::field_count(h, slots, scalars, list, directory, cells, w);
-    write_answer(answer, answers::reading(a))
+    let view = lent_view(heap, slots, scalars, list, directory, cells);
+    write_answer(
+        answer,
+        answers::answer(heap_access::readings::field_count(&view, w)),
+    )
 }
 
 // Field `i` of a struct.
@@ -1005,9 +1028,11 @@ pub extern "C" fn mch_read_field(
     requires { Good (holds heap.now slots.now scalars.now list.now directory.now cells.now) }
     ensures { DeliversSame (Calls.read_field w i) (holds heap.now slots.now scalars.now list.now directory.now cells.now) result answer.new }
 {
-    let h = heap_record::load(heap);
-    let a = heap_access::readings::read_field(h, slots, scalars, list, directory, cells, w, i);
-    write_answer(answer, answers::reading(a))
+    let view = lent_view(heap, slots, scalars, list, directory, cells);
+    write_answer(
+        answer,
+        answers::answer(heap_access::readings::read_field(&view, w, i)),
+    )
 }
 
 // Whether a function is an import.
@@ -1025,9 +1050,11 @@ pub extern "C" fn mch_is_import(
     requires { Good (holds heap.now slots.now scalars.now list.now directory.now cells.now) }
     ensures { DeliversSame (Calls.is_import w) (holds heap.now slots.now scalars.now list.now directory.now cells.now) result answer.new }
 {
-    let h = heap_record::load(heap);
-    let a = heap_access::readings::is_import(h, slots, scalars, list, directory, cells, w);
-    write_answer(answer, answers::test(a))
+    let view = lent_view(heap, slots, scalars, list, directory, cells);
+    write_answer(
+        answer,
+        answers::answer(heap_access::readings::is_import(&view, w)),
+    )
 }
 
 // A function's number.
@@ -1045,9 +1072,11 @@ pub extern "C" fn mch_function_number(
     requires { Good (holds heap.now slots.now scalars.now list.now directory.now cells.now) }
     ensures { DeliversSame (Calls.function_number w) (holds heap.now slots.now scalars.now list.now directory.now cells.now) result answer.new }
 {
-    let h = heap_record::load(heap);
-    let a = heap_access::readings::function_number(h, slots, scalars, list, directory, cells, w);
-    write_answer(answer, answers::reading(a))
+    let view = lent_view(heap, slots, scalars, list, directory, cells);
+    write_answer(
+        answer,
+        answers::answer(heap_access::readings::function_number(&view, w)),
+    )
 }
 
 // How many captures a function has.
@@ -1065,9 +1094,11 @@ pub extern "C" fn mch_capture_count(
     requires { Good (holds heap.now slots.now scalars.now list.now directory.now cells.now) }
     ensures { DeliversSame (Calls.capture_count w) (holds heap.now slots.now scalars.now list.now directory.now cells.now) result answer.new }
 {
-    let h = heap_record::load(heap);
-    let a = heap_access::readings::capture_count(h, slots, scalars, list, directory, cells, w);
-    write_answer(answer, answers::reading(a))
+    let view = lent_view(heap, slots, scalars, list, directory, cells);
+    write_answer(
+        answer,
+        answers::answer(heap_access::readings::capture_count(&view, w)),
+    )
 }
 
 // Capture `i` of a function.
@@ -1086,9 +1117,11 @@ pub extern "C" fn mch_read_capture(
     requires { Good (holds heap.now slots.now scalars.now list.now directory.now cells.now) }
     ensures { DeliversSame (Calls.read_capture w i) (holds heap.now slots.now scalars.now list.now directory.now cells.now) result answer.new }
 {
-    let h = heap_record::load(heap);
-    let a = heap_access::readings::read_capture(h, slots, scalars, list, directory, cells, w, i);
-    write_answer(answer, answers::reading(a))
+    let view = lent_view(heap, slots, scalars, list, directory, cells);
+    write_answer(
+        answer,
+        answers::answer(heap_access::readings::read_capture(&view, w, i)),
+    )
 }
 
 // A coroutine's state.
@@ -1106,9 +1139,11 @@ pub extern "C" fn mch_read_state(
     requires { Good (holds heap.now slots.now scalars.now list.now directory.now cells.now) }
     ensures { DeliversSame (Calls.read_state w) (holds heap.now slots.now scalars.now list.now directory.now cells.now) result answer.new }
 {
-    let h = heap_record::load(heap);
-    let a = heap_access::readings::read_state(h, slots, scalars, list, directory, cells, w);
-    write_answer(answer, answers::reading(a))
+    let view = lent_view(heap, slots, scalars, list, directory, cells);
+    write_answer(
+        answer,
+        answers::answer(heap_access::readings::read_state(&view, w)),
+    )
 }
 
 // A coroutine's payload.
@@ -1126,9 +1161,11 @@ pub extern "C" fn mch_read_payload(
     requires { Good (holds heap.now slots.now scalars.now list.now directory.now cells.now) }
     ensures { DeliversSame (Calls.read_part w Parts.payload) (holds heap.now slots.now scalars.now list.now directory.now cells.now) result answer.new }
 {
-    let h = heap_record::load(heap);
-    let a = heap_access::readings::read_payload(h, slots, scalars, list, directory, cells, w);
-    write_answer(answer, answers::reading(a))
+    let view = lent_view(heap, slots, scalars, list, directory, cells);
+    write_answer(
+        answer,
+        answers::answer(heap_access::readings::read_payload(&view, w)),
+    )
 }
 
 // A coroutine's key.
@@ -1146,9 +1183,11 @@ pub extern "C" fn mch_read_key(
     requires { Good (holds heap.now slots.now scalars.now list.now directory.now cells.now) }
     ensures { DeliversSame (Calls.read_part w Parts.key) (holds heap.now slots.now scalars.now list.now directory.now cells.now) result answer.new }
 {
-    let h = heap_record::load(heap);
-    let a = heap_access::readings::read_key(h, slots, scalars, list, directory, cells, w);
-    write_answer(answer, answers::reading(a))
+    let view = lent_view(heap, slots, scalars, list, directory, cells);
+    write_answer(
+        answer,
+        answers::answer(heap_access::readings::read_key(&view, w)),
+    )
 }
 
 // A coroutine's result.
@@ -1166,9 +1205,11 @@ pub extern "C" fn mch_read_result(
     requires { Good (holds heap.now slots.now scalars.now list.now directory.now cells.now) }
     ensures { DeliversSame (Calls.read_part w Parts.result) (holds heap.now slots.now scalars.now list.now directory.now cells.now) result answer.new }
 {
-    let h = heap_record::load(heap);
-    let a = heap_access::readings::read_result(h, slots, scalars, list, directory, cells, w);
-    write_answer(answer, answers::reading(a))
+    let view = lent_view(heap, slots, scalars, list, directory, cells);
+    write_answer(
+        answer,
+        answers::answer(heap_access::readings::read_result(&view, w)),
+    )
 }
 
 // A coroutine's signal.
@@ -1186,9 +1227,11 @@ pub extern "C" fn mch_read_signal(
     requires { Good (holds heap.now slots.now scalars.now list.now directory.now cells.now) }
     ensures { DeliversSame (Calls.read_part w Parts.signal) (holds heap.now slots.now scalars.now list.now directory.now cells.now) result answer.new }
 {
-    let h = heap_record::load(heap);
-    let a = heap_access::readings::read_signal(h, slots, scalars, list, directory, cells, w);
-    write_answer(answer, answers::reading(a))
+    let view = lent_view(heap, slots, scalars, list, directory, cells);
+    write_answer(
+        answer,
+        answers::answer(heap_access::readings::read_signal(&view, w)),
+    )
 }
 
 // A coroutine's sequence number.
@@ -1206,9 +1249,11 @@ pub extern "C" fn mch_coroutine_sequence(
     requires { Good (holds heap.now slots.now scalars.now list.now directory.now cells.now) }
     ensures { DeliversSame (Calls.coroutine_sequence w) (holds heap.now slots.now scalars.now list.now directory.now cells.now) result answer.new }
 {
-    let h = heap_record::load(heap);
-    let a = heap_access::readings::coroutine_sequence(h, slots, scalars, list, directory, cells, w);
-    write_answer(answer, answers::reading(a))
+    let view = lent_view(heap, slots, scalars, list, directory, cells);
+    write_answer(
+        answer,
+        answers::answer(heap_access::readings::coroutine_sequence(&view, w)),
+    )
 }
 
 // Whether a coroutine is finalized.
@@ -1226,11 +1271,11 @@ pub extern "C" fn mch_coroutine_finalized(
     requires { Good (holds heap.now slots.now scalars.now list.now directory.now cells.now) }
     ensures { DeliversSame (Calls.coroutine_finalized w) (holds heap.now slots.now scalars.now list.now directory.now cells.now) result answer.new }
 {
-    let h = heap_record::load(heap);
-    let a = heap_access::readings::coroutine_finalized(
-        h, slots, scalars, list, directory, cells, w,
-    );
-    write_answer(answer, answers::test(a))
+    let view = lent_view(heap, slots, scalars, list, directory, cells);
+    write_answer(
+        answer,
+        answers::answer(heap_access::readings::coroutine_finalized(&view, w)),
+    )
 }
 
 // How many registers a coroutine has.
@@ -1248,9 +1293,11 @@ pub extern "C" fn mch_register_count(
     requires { Good (holds heap.now slots.now scalars.now list.now directory.now cells.now) }
     ensures { DeliversSame (Calls.register_count w) (holds heap.now slots.now scalars.now list.now directory.now cells.now) result answer.new }
 {
-    let h = heap_record::load(heap);
-    let a = heap_access::readings::register_count(h, slots, scalars, list, directory, cells, w);
-    write_answer(answer, answers::reading(a))
+    let view = lent_view(heap, slots, scalars, list, directory, cells);
+    write_answer(
+        answer,
+        answers::answer(heap_access::readings::register_count(&view, w)),
+    )
 }
 
 // How many frames a coroutine has.
@@ -1268,9 +1315,11 @@ pub extern "C" fn mch_frame_count(
     requires { Good (holds heap.now slots.now scalars.now list.now directory.now cells.now) }
     ensures { DeliversSame (Calls.frame_count w) (holds heap.now slots.now scalars.now list.now directory.now cells.now) result answer.new }
 {
-    let h = heap_record::load(heap);
-    let a = heap_access::readings::frame_count(h, slots, scalars, list, directory, cells, w);
-    write_answer(answer, answers::reading(a))
+    let view = lent_view(heap, slots, scalars, list, directory, cells);
+    write_answer(
+        answer,
+        answers::answer(heap_access::readings::frame_count(&view, w)),
+    )
 }
 
 // Frame `i` of a coroutine.
@@ -1289,9 +1338,11 @@ pub extern "C" fn mch_read_frame(
     requires { Good (holds heap.now slots.now scalars.now list.now directory.now cells.now) }
     ensures { DeliversSame (Calls.read_frame w i) (holds heap.now slots.now scalars.now list.now directory.now cells.now) result answer.new }
 {
-    let h = heap_record::load(heap);
-    let a = heap_access::readings::read_frame(h, slots, scalars, list, directory, cells, w, i);
-    write_answer(answer, answers::frame(a))
+    let view = lent_view(heap, slots, scalars, list, directory, cells);
+    write_answer(
+        answer,
+        answers::answer(heap_access::readings::read_frame(&view, w, i)),
+    )
 }
 
 // Register `i` of a coroutine.
@@ -1310,9 +1361,11 @@ pub extern "C" fn mch_read_register(
     requires { Good (holds heap.now slots.now scalars.now list.now directory.now cells.now) }
     ensures { DeliversSame (Calls.read_register w i) (holds heap.now slots.now scalars.now list.now directory.now cells.now) result answer.new }
 {
-    let h = heap_record::load(heap);
-    let a = heap_access::readings::read_register(h, slots, scalars, list, directory, cells, w, i);
-    write_answer(answer, answers::reading(a))
+    let view = lent_view(heap, slots, scalars, list, directory, cells);
+    write_answer(
+        answer,
+        answers::answer(heap_access::readings::read_register(&view, w, i)),
+    )
 }
 
 // ---- stores, and arrays that grow and shrink
@@ -1334,8 +1387,8 @@ pub extern "C" fn mch_store_cell(
     ensures { Delivers (Calls.store_cell w v) (holds heap.now slots.old scalars.now list.now directory.now cells.now) result answer.new (holds heap.now slots.new scalars.now list.now directory.now cells.now) }
 {
     let h = heap_record::load(heap);
-    let a = heap_access::stores::store_cell(h, slots, scalars, list, directory, cells, w, v);
-    write_answer(answer, answers::done(a))
+    let done = heap_access::stores::store_cell(&h, slots, scalars, list, directory, cells, w, v);
+    write_answer(answer, answers::answer(done))
 }
 
 // A new word for a box.
@@ -1355,8 +1408,8 @@ pub extern "C" fn mch_store_box(
     ensures { Delivers (Calls.store_box w v) (holds heap.now slots.old scalars.now list.now directory.now cells.now) result answer.new (holds heap.now slots.new scalars.now list.now directory.now cells.now) }
 {
     let h = heap_record::load(heap);
-    let a = heap_access::stores::store_box(h, slots, scalars, list, directory, cells, w, v);
-    write_answer(answer, answers::done(a))
+    let done = heap_access::stores::store_box(&h, slots, scalars, list, directory, cells, w, v);
+    write_answer(answer, answers::answer(done))
 }
 
 // A new item at `i`; outside the length nothing changes.
@@ -1377,8 +1430,8 @@ pub extern "C" fn mch_store_item(
     ensures { Delivers (Calls.store_item w i v) (holds heap.now slots.now scalars.now list.now directory.now cells.old) result answer.new (holds heap.now slots.now scalars.now list.now directory.now cells.new) }
 {
     let h = heap_record::load(heap);
-    let a = heap_access::stores::store_item(h, slots, scalars, list, directory, cells, w, i, v);
-    write_answer(answer, answers::done(a))
+    let done = heap_access::stores::store_item(&h, slots, scalars, list, directory, cells, w, i, v);
+    write_answer(answer, answers::answer(done))
 }
 
 // An item behind the last of an array.
@@ -1397,12 +1450,10 @@ pub extern "C" fn mch_push(
     requires { Good (holds heap.old slots.old scalars.now list.now directory.old cells.old) }
     ensures { Delivers (Calls.push w v) (holds heap.old slots.old scalars.now list.now directory.old cells.old) result answer.new (holds heap.new slots.new scalars.now list.now directory.new cells.new) }
 {
-    let h = heap_record::load(heap);
-    let a = collections_arrays::push(h, slots, scalars, list, directory, cells, w, v);
-    let next = a.heap;
-    heap_record::save(heap, next);
-    let done = a.done;
-    write_answer(answer, answers::done(done))
+    let mut h = heap_record::load(heap);
+    let done = collections_arrays::push(&mut h, slots, scalars, list, directory, cells, w, v);
+    heap_record::save(heap, h);
+    write_answer(answer, answers::answer(done))
 }
 
 // The last item of an array, taken off.
@@ -1421,8 +1472,8 @@ pub extern "C" fn mch_pop(
     ensures { Delivers (Calls.pop w) (holds heap.now slots.old scalars.now list.now directory.now cells.now) result answer.new (holds heap.now slots.new scalars.now list.now directory.now cells.now) }
 {
     let h = heap_record::load(heap);
-    let a = collections_arrays::pop(h, slots, scalars, list, directory, cells, w);
-    write_answer(answer, answers::reading(a))
+    let word = collections_arrays::pop(&h, slots, scalars, list, directory, cells, w);
+    write_answer(answer, answers::answer(word))
 }
 
 // A new word for field `i` of a struct.
@@ -1443,8 +1494,10 @@ pub extern "C" fn mch_store_field(
     ensures { Delivers (Calls.store_field w i v) (holds heap.now slots.now scalars.now list.now directory.now cells.old) result answer.new (holds heap.now slots.now scalars.now list.now directory.now cells.new) }
 {
     let h = heap_record::load(heap);
-    let a = heap_access::stores::store_field(h, slots, scalars, list, directory, cells, w, i, v);
-    write_answer(answer, answers::done(a))
+    let done = heap_access::stores::store_field(
+        &h, slots, scalars, list, directory, cells, w, i, v,
+    );
+    write_answer(answer, answers::answer(done))
 }
 
 // A new word for capture `i` of a function.
@@ -1465,8 +1518,10 @@ pub extern "C" fn mch_store_capture(
     ensures { Delivers (Calls.store_capture w i v) (holds heap.now slots.now scalars.now list.now directory.now cells.old) result answer.new (holds heap.now slots.now scalars.now list.now directory.now cells.new) }
 {
     let h = heap_record::load(heap);
-    let a = heap_access::stores::store_capture(h, slots, scalars, list, directory, cells, w, i, v);
-    write_answer(answer, answers::done(a))
+    let done = heap_access::stores::store_capture(
+        &h, slots, scalars, list, directory, cells, w, i, v,
+    );
+    write_answer(answer, answers::answer(done))
 }
 
 // A new word for register `i` of a coroutine.
@@ -1487,8 +1542,10 @@ pub extern "C" fn mch_store_register(
     ensures { Delivers (Calls.store_register w i v) (holds heap.now slots.now scalars.now list.now directory.now cells.old) result answer.new (holds heap.now slots.now scalars.now list.now directory.now cells.new) }
 {
     let h = heap_record::load(heap);
-    let a = heap_access::stores::store_register(h, slots, scalars, list, directory, cells, w, i, v);
-    write_answer(answer, answers::done(a))
+    let done = heap_access::stores::store_register(
+        &h, slots, scalars, list, directory, cells, w, i, v,
+    );
+    write_answer(answer, answers::answer(done))
 }
 
 // A new payload for a coroutine.
@@ -1508,8 +1565,8 @@ pub extern "C" fn mch_store_payload(
     ensures { Delivers (Calls.store_part w Parts.payload v) (holds heap.now slots.now scalars.old list.now directory.now cells.now) result answer.new (holds heap.now slots.now scalars.new list.now directory.now cells.now) }
 {
     let h = heap_record::load(heap);
-    let a = heap_access::stores::store_payload(h, slots, scalars, list, directory, cells, w, v);
-    write_answer(answer, answers::done(a))
+    let done = heap_access::stores::store_payload(&h, slots, scalars, list, directory, cells, w, v);
+    write_answer(answer, answers::answer(done))
 }
 
 // A new key for a coroutine.
@@ -1529,8 +1586,8 @@ pub extern "C" fn mch_store_key(
     ensures { Delivers (Calls.store_part w Parts.key v) (holds heap.now slots.now scalars.old list.now directory.now cells.now) result answer.new (holds heap.now slots.now scalars.new list.now directory.now cells.now) }
 {
     let h = heap_record::load(heap);
-    let a = heap_access::stores::store_key(h, slots, scalars, list, directory, cells, w, v);
-    write_answer(answer, answers::done(a))
+    let done = heap_access::stores::store_key(&h, slots, scalars, list, directory, cells, w, v);
+    write_answer(answer, answers::answer(done))
 }
 
 // A new result for a coroutine.
@@ -1550,8 +1607,8 @@ pub extern "C" fn mch_store_result(
     ensures { Delivers (Calls.store_part w Parts.result v) (holds heap.now slots.now scalars.old list.now directory.now cells.now) result answer.new (holds heap.now slots.now scalars.new list.now directory.now cells.now) }
 {
     let h = heap_record::load(heap);
-    let a = heap_access::stores::store_result(h, slots, scalars, list, directory, cells, w, v);
-    write_answer(answer, answers::done(a))
+    let done = heap_access::stores::store_result(&h, slots, scalars, list, directory, cells, w, v);
+    write_answer(answer, answers::answer(done))
 }
 
 // A new signal for a coroutine.
@@ -1571,8 +1628,8 @@ pub extern "C" fn mch_store_signal(
     ensures { Delivers (Calls.store_part w Parts.signal v) (holds heap.now slots.now scalars.old list.now directory.now cells.now) result answer.new (holds heap.now slots.now scalars.new list.now directory.now cells.now) }
 {
     let h = heap_record::load(heap);
-    let a = heap_access::stores::store_signal(h, slots, scalars, list, directory, cells, w, v);
-    write_answer(answer, answers::done(a))
+    let done = heap_access::stores::store_signal(&h, slots, scalars, list, directory, cells, w, v);
+    write_answer(answer, answers::answer(done))
 }
 
 // A new state for a coroutine.
@@ -1592,8 +1649,8 @@ pub extern "C" fn mch_set_state(
     ensures { Delivers (Calls.set_state w s) (holds heap.now slots.old scalars.now list.now directory.now cells.now) result answer.new (holds heap.now slots.new scalars.now list.now directory.now cells.now) }
 {
     let h = heap_record::load(heap);
-    let a = heap_access::stores::set_state(h, slots, scalars, list, directory, cells, w, s);
-    write_answer(answer, answers::done(a))
+    let done = heap_access::stores::set_state(&h, slots, scalars, list, directory, cells, w, s);
+    write_answer(answer, answers::answer(done))
 }
 
 // ---- maps and iterators
@@ -1616,14 +1673,12 @@ pub extern "C" fn mch_put(
     requires { Good (holds heap.old slots.old scalars.old list.now directory.old cells.old) }
     ensures { Delivers (Calls.put w hash key value) (holds heap.old slots.old scalars.old list.now directory.old cells.old) result answer.new (holds heap.new slots.new scalars.new list.now directory.new cells.new) }
 {
-    let h = heap_record::load(heap);
-    let a = collections_maps::changes::put(
-        h, slots, scalars, list, directory, cells, w, hash, key, value,
+    let mut h = heap_record::load(heap);
+    let done = collections_maps::changes::put(
+        &mut h, slots, scalars, list, directory, cells, w, hash, key, value,
     );
-    let next = a.heap;
-    heap_record::save(heap, next);
-    let done = a.done;
-    write_answer(answer, answers::done(done))
+    heap_record::save(heap, h);
+    write_answer(answer, answers::answer(done))
 }
 
 // An entry added, whatever is there.
@@ -1644,14 +1699,12 @@ pub extern "C" fn mch_insert_entry(
     requires { Good (holds heap.old slots.old scalars.old list.now directory.old cells.old) }
     ensures { Delivers (Calls.insert_entry w hash key value) (holds heap.old slots.old scalars.old list.now directory.old cells.old) result answer.new (holds heap.new slots.new scalars.new list.now directory.new cells.new) }
 {
-    let h = heap_record::load(heap);
-    let a = collections_maps::changes::insert_entry(
-        h, slots, scalars, list, directory, cells, w, hash, key, value,
+    let mut h = heap_record::load(heap);
+    let done = collections_maps::changes::insert_entry(
+        &mut h, slots, scalars, list, directory, cells, w, hash, key, value,
     );
-    let next = a.heap;
-    heap_record::save(heap, next);
-    let done = a.done;
-    write_answer(answer, answers::done(done))
+    heap_record::save(heap, h);
+    write_answer(answer, answers::answer(done))
 }
 
 // The position of a key.
@@ -1671,11 +1724,11 @@ pub extern "C" fn mch_find(
     requires { Good (holds heap.now slots.now scalars.now list.now directory.now cells.now) }
     ensures { DeliversSame (Calls.find w hash key) (holds heap.now slots.now scalars.now list.now directory.now cells.now) result answer.new }
 {
-    let h = heap_record::load(heap);
-    let a = collections_maps::readings::find(
-        h, slots, scalars, list, directory, cells, w, hash, key,
-    );
-    write_answer(answer, answers::perhaps(a))
+    let view = lent_view(heap, slots, scalars, list, directory, cells);
+    write_answer(
+        answer,
+        answers::answer(collections_maps::readings::find(&view, w, hash, key)),
+    )
 }
 
 // The entry of a key removed.
@@ -1695,14 +1748,12 @@ pub extern "C" fn mch_remove(
     requires { Good (holds heap.old slots.old scalars.old list.now directory.old cells.old) }
     ensures { Delivers (Calls.remove w hash key) (holds heap.old slots.old scalars.old list.now directory.old cells.old) result answer.new (holds heap.new slots.new scalars.new list.now directory.new cells.new) }
 {
-    let h = heap_record::load(heap);
-    let a = collections_maps::changes::remove(
-        h, slots, scalars, list, directory, cells, w, hash, key,
+    let mut h = heap_record::load(heap);
+    let done = collections_maps::changes::remove(
+        &mut h, slots, scalars, list, directory, cells, w, hash, key,
     );
-    let next = a.heap;
-    heap_record::save(heap, next);
-    let done = a.done;
-    write_answer(answer, answers::done(done))
+    heap_record::save(heap, h);
+    write_answer(answer, answers::answer(done))
 }
 
 // The entry at a position removed.
@@ -1721,12 +1772,12 @@ pub extern "C" fn mch_remove_at(
     requires { Good (holds heap.old slots.old scalars.old list.now directory.old cells.old) }
     ensures { Delivers (Calls.remove_at w pos) (holds heap.old slots.old scalars.old list.now directory.old cells.old) result answer.new (holds heap.new slots.new scalars.new list.now directory.new cells.new) }
 {
-    let h = heap_record::load(heap);
-    let a = collections_maps::changes::remove_at(h, slots, scalars, list, directory, cells, w, pos);
-    let next = a.heap;
-    heap_record::save(heap, next);
-    let done = a.done;
-    write_answer(answer, answers::done(done))
+    let mut h = heap_record::load(heap);
+    let done = collections_maps::changes::remove_at(
+        &mut h, slots, scalars, list, directory, cells, w, pos,
+    );
+    heap_record::save(heap, h);
+    write_answer(answer, answers::answer(done))
 }
 
 // The entry at a position, live or dead.
@@ -1745,11 +1796,11 @@ pub extern "C" fn mch_read_entry(
     requires { Good (holds heap.now slots.now scalars.now list.now directory.now cells.now) }
     ensures { DeliversSame (Calls.read_entry w pos) (holds heap.now slots.now scalars.now list.now directory.now cells.now) result answer.new }
 {
-    let h = heap_record::load(heap);
-    let a = collections_maps::readings::read_entry(
-        h, slots, scalars, list, directory, cells, w, pos,
-    );
-    write_answer(answer, answers::entry(a))
+    let view = lent_view(heap, slots, scalars, list, directory, cells);
+    write_answer(
+        answer,
+        answers::answer(collections_maps::readings::read_entry(&view, w, pos)),
+    )
 }
 
 // A new value at a position; outside nothing changes.
@@ -1770,10 +1821,10 @@ pub extern "C" fn mch_set_value(
     ensures { Delivers (Calls.set_value w pos v) (holds heap.now slots.now scalars.now list.now directory.now cells.old) result answer.new (holds heap.now slots.now scalars.now list.now directory.now cells.new) }
 {
     let h = heap_record::load(heap);
-    let a = collections_maps::changes::set_value(
-        h, slots, scalars, list, directory, cells, w, pos, v,
+    let done = collections_maps::changes::set_value(
+        &h, slots, scalars, list, directory, cells, w, pos, v,
     );
-    write_answer(answer, answers::done(a))
+    write_answer(answer, answers::answer(done))
 }
 
 // The integer key `k` noted.
@@ -1793,8 +1844,8 @@ pub extern "C" fn mch_note(
     ensures { Delivers (Calls.note w k) (holds heap.now slots.old scalars.old list.now directory.now cells.now) result answer.new (holds heap.now slots.new scalars.new list.now directory.now cells.now) }
 {
     let h = heap_record::load(heap);
-    let a = collections_maps::changes::note(h, slots, scalars, list, directory, cells, w, k);
-    write_answer(answer, answers::done(a))
+    let done = collections_maps::changes::note(&h, slots, scalars, list, directory, cells, w, k);
+    write_answer(answer, answers::answer(done))
 }
 
 // The integer key after the greatest noted one.
@@ -1812,9 +1863,11 @@ pub extern "C" fn mch_next_key(
     requires { Good (holds heap.now slots.now scalars.now list.now directory.now cells.now) }
     ensures { DeliversSame (Calls.next_key w) (holds heap.now slots.now scalars.now list.now directory.now cells.now) result answer.new }
 {
-    let h = heap_record::load(heap);
-    let a = collections_maps::readings::next_key(h, slots, scalars, list, directory, cells, w);
-    write_answer(answer, answers::next_int(a))
+    let view = lent_view(heap, slots, scalars, list, directory, cells);
+    write_answer(
+        answer,
+        answers::next_int(collections_maps::readings::next_key(&view, w)),
+    )
 }
 
 // The greatest noted key.
@@ -1832,9 +1885,11 @@ pub extern "C" fn mch_noted_key(
     requires { Good (holds heap.now slots.now scalars.now list.now directory.now cells.now) }
     ensures { DeliversSame (Calls.noted_key w) (holds heap.now slots.now scalars.now list.now directory.now cells.now) result answer.new }
 {
-    let h = heap_record::load(heap);
-    let a = collections_maps::readings::noted_key(h, slots, scalars, list, directory, cells, w);
-    write_answer(answer, answers::noted(a))
+    let view = lent_view(heap, slots, scalars, list, directory, cells);
+    write_answer(
+        answer,
+        answers::noted(collections_maps::readings::noted_key(&view, w)),
+    )
 }
 
 // The next live entry's position, or the end. The lent cursor is yielded yet, last sequence
@@ -1855,10 +1910,9 @@ pub extern "C" fn mch_next(
     ensures delivers_same { DeliversSame (Calls.next w (cursor_in cursor.old)) (holds heap.now slots.now scalars.now list.now directory.now cells.now) result answer.new }
     ensures cursor_after { cursor.new ≡ cursor_out (shown_in result answer.new) cursor.old }
 {
-    let h = heap_record::load(heap);
+    let view = lent_view(heap, slots, scalars, list, directory, cells);
     let c = load_cursor(cursor);
-    let a = collections_maps::step_cursor(h, slots, scalars, list, directory, cells, w, c);
-    let s = answers::moved(c, a);
+    let s = answers::moved(c, collections_maps::step_cursor(&view, w, c));
     save_cursor(cursor, s);
     write_answer(answer, s)
 }
@@ -1878,9 +1932,11 @@ pub extern "C" fn mch_live_count(
     requires { Good (holds heap.now slots.now scalars.now list.now directory.now cells.now) }
     ensures { DeliversSame (Calls.live_count w) (holds heap.now slots.now scalars.now list.now directory.now cells.now) result answer.new }
 {
-    let h = heap_record::load(heap);
-    let a = collections_maps::readings::live_count(h, slots, scalars, list, directory, cells, w);
-    write_answer(answer, answers::reading(a))
+    let view = lent_view(heap, slots, scalars, list, directory, cells);
+    write_answer(
+        answer,
+        answers::answer(collections_maps::readings::live_count(&view, w)),
+    )
 }
 
 // How many places a map has, dead ones included.
@@ -1898,9 +1954,11 @@ pub extern "C" fn mch_place_count(
     requires { Good (holds heap.now slots.now scalars.now list.now directory.now cells.now) }
     ensures { DeliversSame (Calls.place_count w) (holds heap.now slots.now scalars.now list.now directory.now cells.now) result answer.new }
 {
-    let h = heap_record::load(heap);
-    let a = collections_maps::readings::place_count(h, slots, scalars, list, directory, cells, w);
-    write_answer(answer, answers::reading(a))
+    let view = lent_view(heap, slots, scalars, list, directory, cells);
+    write_answer(
+        answer,
+        answers::answer(collections_maps::readings::place_count(&view, w)),
+    )
 }
 
 // Whether a map is hashed.
@@ -1918,9 +1976,11 @@ pub extern "C" fn mch_is_hashed(
     requires { Good (holds heap.now slots.now scalars.now list.now directory.now cells.now) }
     ensures { DeliversSame (Calls.is_hashed w) (holds heap.now slots.now scalars.now list.now directory.now cells.now) result answer.new }
 {
-    let h = heap_record::load(heap);
-    let a = collections_maps::readings::is_hashed(h, slots, scalars, list, directory, cells, w);
-    write_answer(answer, answers::test(a))
+    let view = lent_view(heap, slots, scalars, list, directory, cells);
+    write_answer(
+        answer,
+        answers::answer(collections_maps::readings::is_hashed(&view, w)),
+    )
 }
 
 // The type of a map's keys.
@@ -1938,9 +1998,11 @@ pub extern "C" fn mch_key_type(
     requires { Good (holds heap.now slots.now scalars.now list.now directory.now cells.now) }
     ensures { DeliversSame (Calls.key_type w) (holds heap.now slots.now scalars.now list.now directory.now cells.now) result answer.new }
 {
-    let h = heap_record::load(heap);
-    let a = collections_maps::readings::key_type(h, slots, scalars, list, directory, cells, w);
-    write_answer(answer, answers::reading(a))
+    let view = lent_view(heap, slots, scalars, list, directory, cells);
+    write_answer(
+        answer,
+        answers::answer(collections_maps::readings::key_type(&view, w)),
+    )
 }
 
 // The type of a map's values.
@@ -1958,9 +2020,11 @@ pub extern "C" fn mch_value_type(
     requires { Good (holds heap.now slots.now scalars.now list.now directory.now cells.now) }
     ensures { DeliversSame (Calls.value_type w) (holds heap.now slots.now scalars.now list.now directory.now cells.now) result answer.new }
 {
-    let h = heap_record::load(heap);
-    let a = collections_maps::readings::value_type(h, slots, scalars, list, directory, cells, w);
-    write_answer(answer, answers::reading(a))
+    let view = lent_view(heap, slots, scalars, list, directory, cells);
+    write_answer(
+        answer,
+        answers::answer(collections_maps::readings::value_type(&view, w)),
+    )
 }
 
 // How often a map was compacted, in 32 bits.
@@ -1978,9 +2042,11 @@ pub extern "C" fn mch_map_epoch(
     requires { Good (holds heap.now slots.now scalars.now list.now directory.now cells.now) }
     ensures { DeliversSame (Calls.map_epoch w) (holds heap.now slots.now scalars.now list.now directory.now cells.now) result answer.new }
 {
-    let h = heap_record::load(heap);
-    let a = collections_maps::readings::map_epoch(h, slots, scalars, list, directory, cells, w);
-    write_answer(answer, answers::reading(a))
+    let view = lent_view(heap, slots, scalars, list, directory, cells);
+    write_answer(
+        answer,
+        answers::answer(collections_maps::readings::map_epoch(&view, w)),
+    )
 }
 
 // The next entry's sequence number.
@@ -1998,9 +2064,11 @@ pub extern "C" fn mch_next_sequence(
     requires { Good (holds heap.now slots.now scalars.now list.now directory.now cells.now) }
     ensures { DeliversSame (Calls.next_sequence w) (holds heap.now slots.now scalars.now list.now directory.now cells.now) result answer.new }
 {
-    let h = heap_record::load(heap);
-    let a = collections_maps::readings::next_sequence(h, slots, scalars, list, directory, cells, w);
-    write_answer(answer, answers::reading(a))
+    let view = lent_view(heap, slots, scalars, list, directory, cells);
+    write_answer(
+        answer,
+        answers::answer(collections_maps::readings::next_sequence(&view, w)),
+    )
 }
 
 // The capacity of a map's entry list.
@@ -2018,11 +2086,11 @@ pub extern "C" fn mch_entry_capacity(
     requires { Good (holds heap.now slots.now scalars.now list.now directory.now cells.now) }
     ensures { DeliversSame (Calls.entry_capacity w) (holds heap.now slots.now scalars.now list.now directory.now cells.now) result answer.new }
 {
-    let h = heap_record::load(heap);
-    let a = collections_maps::readings::entry_capacity(
-        h, slots, scalars, list, directory, cells, w,
-    );
-    write_answer(answer, answers::reading(a))
+    let view = lent_view(heap, slots, scalars, list, directory, cells);
+    write_answer(
+        answer,
+        answers::answer(collections_maps::readings::entry_capacity(&view, w)),
+    )
 }
 
 // The length of a map's index.
@@ -2040,9 +2108,11 @@ pub extern "C" fn mch_index_length(
     requires { Good (holds heap.now slots.now scalars.now list.now directory.now cells.now) }
     ensures { DeliversSame (Calls.index_length w) (holds heap.now slots.now scalars.now list.now directory.now cells.now) result answer.new }
 {
-    let h = heap_record::load(heap);
-    let a = collections_maps::readings::index_length(h, slots, scalars, list, directory, cells, w);
-    write_answer(answer, answers::reading(a))
+    let view = lent_view(heap, slots, scalars, list, directory, cells);
+    write_answer(
+        answer,
+        answers::answer(collections_maps::readings::index_length(&view, w)),
+    )
 }
 
 // The bytes that an insertion of this key would be charged.
@@ -2061,11 +2131,11 @@ pub extern "C" fn mch_growth_bytes(
     requires { Good (holds heap.now slots.now scalars.now list.now directory.now cells.now) }
     ensures { DeliversSame (Calls.growth_bytes w key) (holds heap.now slots.now scalars.now list.now directory.now cells.now) result answer.new }
 {
-    let h = heap_record::load(heap);
-    let a = collections_maps::readings::growth_bytes(
-        h, slots, scalars, list, directory, cells, w, key,
-    );
-    write_answer(answer, answers::reading(a))
+    let view = lent_view(heap, slots, scalars, list, directory, cells);
+    write_answer(
+        answer,
+        answers::answer(collections_maps::readings::growth_bytes(&view, w, key)),
+    )
 }
 
 // The next item of an iterator, or its end.
@@ -2084,8 +2154,8 @@ pub extern "C" fn mch_iter_next(
     ensures { Delivers (Calls.iter_next w) (holds heap.now slots.now scalars.old list.now directory.now cells.now) result answer.new (holds heap.now slots.now scalars.new list.now directory.now cells.now) }
 {
     let h = heap_record::load(heap);
-    let a = collections_iterators::iter_next(h, slots, scalars, list, directory, cells, w);
-    write_answer(answer, answers::perhaps(a))
+    let item = collections_iterators::iter_next(&h, slots, scalars, list, directory, cells, w);
+    write_answer(answer, answers::answer(item))
 }
 
 // The key of the item visited last.
@@ -2103,9 +2173,11 @@ pub extern "C" fn mch_iter_key(
     requires { Good (holds heap.now slots.now scalars.now list.now directory.now cells.now) }
     ensures { DeliversSame (Calls.iter_key w) (holds heap.now slots.now scalars.now list.now directory.now cells.now) result answer.new }
 {
-    let h = heap_record::load(heap);
-    let a = collections_iterators::iter_key(h, slots, scalars, list, directory, cells, w);
-    write_answer(answer, answers::perhaps(a))
+    let view = lent_view(heap, slots, scalars, list, directory, cells);
+    write_answer(
+        answer,
+        answers::answer(collections_iterators::iter_key(&view, w)),
+    )
 }
 
 // The word of the array or map that an iterator goes over.
@@ -2123,9 +2195,11 @@ pub extern "C" fn mch_iter_source(
     requires { Good (holds heap.now slots.now scalars.now list.now directory.now cells.now) }
     ensures { DeliversSame (Calls.iter_source w) (holds heap.now slots.now scalars.now list.now directory.now cells.now) result answer.new }
 {
-    let h = heap_record::load(heap);
-    let a = collections_iterators::iter_source(h, slots, scalars, list, directory, cells, w);
-    write_answer(answer, answers::reading(a))
+    let view = lent_view(heap, slots, scalars, list, directory, cells);
+    write_answer(
+        answer,
+        answers::answer(collections_iterators::iter_source(&view, w)),
+    )
 }
 
 // The type of an iterator's keys.
@@ -2143,9 +2217,11 @@ pub extern "C" fn mch_iter_key_type(
     requires { Good (holds heap.now slots.now scalars.now list.now directory.now cells.now) }
     ensures { DeliversSame (Calls.iter_key_type w) (holds heap.now slots.now scalars.now list.now directory.now cells.now) result answer.new }
 {
-    let h = heap_record::load(heap);
-    let a = collections_iterators::iter_key_type(h, slots, scalars, list, directory, cells, w);
-    write_answer(answer, answers::reading(a))
+    let view = lent_view(heap, slots, scalars, list, directory, cells);
+    write_answer(
+        answer,
+        answers::answer(collections_iterators::iter_key_type(&view, w)),
+    )
 }
 
 // Whether an iterator has ended.
@@ -2163,9 +2239,11 @@ pub extern "C" fn mch_iter_ended(
     requires { Good (holds heap.now slots.now scalars.now list.now directory.now cells.now) }
     ensures { DeliversSame (Calls.iter_ended w) (holds heap.now slots.now scalars.now list.now directory.now cells.now) result answer.new }
 {
-    let h = heap_record::load(heap);
-    let a = collections_iterators::iter_ended(h, slots, scalars, list, directory, cells, w);
-    write_answer(answer, answers::test(a))
+    let view = lent_view(heap, slots, scalars, list, directory, cells);
+    write_answer(
+        answer,
+        answers::answer(collections_iterators::iter_ended(&view, w)),
+    )
 }
 
 // An iterator's cursor.
@@ -2183,7 +2261,9 @@ pub extern "C" fn mch_iter_cursor(
     requires { Good (holds heap.now slots.now scalars.now list.now directory.now cells.now) }
     ensures { DeliversSame (Calls.iter_cursor w) (holds heap.now slots.now scalars.now list.now directory.now cells.now) result answer.new }
 {
-    let h = heap_record::load(heap);
-    let a = collections_iterators::iter_cursor(h, slots, scalars, list, directory, cells, w);
-    write_answer(answer, answers::cursor(a))
+    let view = lent_view(heap, slots, scalars, list, directory, cells);
+    write_answer(
+        answer,
+        answers::answer(collections_iterators::iter_cursor(&view, w)),
+    )
 }

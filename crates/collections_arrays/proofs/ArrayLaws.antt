@@ -1,4 +1,5 @@
 -- Arrays: an item taken off the end. Assumes nothing.
+use Rattle.std.proofs.Common.{Result, Ok, Err}
 use Prim.Native.Nat.{ℕ, ◌+◌, ◌*◌, ◌-◌, ◌≤◌, ◌<◌}
 use mathlib.Core.Path.{◌≡◌, refl, ap, sym, ◌∙◌}
 use mathlib.Core.Bool.{true, false, not}
@@ -23,8 +24,6 @@ use Rattle.model.specs.Refusals.{first, is_empty, target, unless}
 use Rattle.model.specs.Rules.{item, pop_item, same_room}
 use Rattle.model.specs.Terms.{an_array, charging, items, popped, terms}
 use Rattle.heap.proofs.GoodLaws.{good_as, holds_as}
-use Rattle.heap.specs.declared.Located.{Located}
-use Rattle.heap.specs.declared.Located.TheVariants as L
 use Rattle.heap.specs.declared.Refusal.{Refusal}
 use Rattle.heap.specs.declared.Refusal.TheVariants as No
 use Rattle.heap.specs.Answers.{answered, number_of, refused}
@@ -53,7 +52,7 @@ pub record ArrayHere (t : State) (w i : ℕ) (h : Header) : Type 0 where
 pub array_at : {t : State} {w i : ℕ} {h : Header} → Good t → Target t w i 6 → h ≡ header_at t.slots i → ArrayHere t w i h
 array_at g o p = record { good = g; target = o; header = p }
 
-pub array-here : {t : State} {w i : ℕ} {r : Located} {h : Header} → Good t → Locates t.slots t.heap.fresh w 6 r → r ≡ L.At i → h ≡ header_at t.slots i → ArrayHere t w i h
+pub array-here : {t : State} {w i : ℕ} {r : Result ℕ Refusal} {h : Header} → Good t → Locates t.slots t.heap.fresh w 6 r → r ≡ Ok i → h ≡ header_at t.slots i → ArrayHere t w i h
 array-here g d e p = array_at g (located_at g d e) p
 
 -- a slot of kind 6 with the tag of a good one
@@ -90,7 +89,7 @@ unfolding unless is_empty
 some-list [] h = absurd (h refl)
 some-list (x ∷ xs) h = refl
 
-module _ {t : State} {w : ℕ} {r : Located} {q : Refusal} (g : Good t) (d : Locates t.slots t.heap.fresh w 6 r) (e : r ≡ L.Refused q) where
+module _ {t : State} {w : ℕ} {r : Result ℕ Refusal} {q : Refusal} (g : Good t) (d : Locates t.slots t.heap.fresh w 6 r) (e : r ≡ Err q) where
   pub pop-refused : Performs (Calls.pop w) t (refused q) t
   unfolding terms effect charging
   pop-refused l = object-refused l g (Calls.pop w) {rest = unless (not (is_empty (items (model_of l t) w))) 3 ∷ []} d e says_array refl refl

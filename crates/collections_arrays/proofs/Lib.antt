@@ -1,3 +1,2 @@
 pub mod ArrayLaws
-pub mod AppendLaws
 pub mod PushLaws

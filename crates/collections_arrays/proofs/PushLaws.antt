@@ -1,4 +1,5 @@
 -- An item pushed onto an array. Assumes nothing.
+use Rattle.std.proofs.Common.{Result, Err}
 use Prim.Native.Nat.{ℕ, ◌+◌, ◌*◌, ◌-◌, ◌≤◌, ◌<◌}
 use mathlib.Core.Logic.{◌≢◌}
 use mathlib.Core.Path.{◌≡◌, refl, ap, sym, ◌∙◌}
@@ -26,13 +27,11 @@ use Rattle.model.specs.Calls.{effect}
 use Rattle.model.specs.Content.{cells_of}
 use Rattle.model.specs.Model.{view_of}
 use Rattle.model.specs.Replies.{nothing}
-use Rattle.model.specs.Refusals.{first, slotless, target}
-use Rattle.model.specs.Rules.{item, push_item, push_room}
+use Rattle.model.specs.Refusals.{first, slotless}
+use Rattle.model.specs.Rules.{push_item, push_room}
 use Rattle.model.specs.Slots as Slots
 use Rattle.model.specs.Terms.{charging, push_bytes, terms}
 use Rattle.heap.specs.declared.Heap.{Heap}
-use Rattle.heap.specs.declared.Located.{Located}
-use Rattle.heap.specs.declared.Located.TheVariants as L
 use Rattle.heap.specs.declared.Refusal.{Refusal}
 use Rattle.heap.specs.declared.Refusal.TheVariants as No
 use Rattle.heap.specs.Answers.{answered, refused}
@@ -52,7 +51,7 @@ use Rattle.collections_arrays.specs.Arrays.{Appended, Appending, Extended, Exten
 use Rattle.collections_growth.specs.Growth.{Lengthened, Lengthening}
 use Rattle.collections_arrays.specs.Arrays as Arrays
 use Rattle.collections_arrays.proofs.ArrayLaws.{ArrayHere, array-good, array-inside, array-items, items-length}
-use Rattle.collections_growth.proofs.GrowthLaws.{lengthened_touched, made_longer, stays_same}
+use Rattle.collections_growth.proofs.GrowthLaws.{lengthened_touched, longer-made, stays_same}
 
 -- ---- the capacity after a push
 
@@ -65,7 +64,7 @@ push-more len size l =
 pub push-keeps : (len size : ℕ) → len ≢ size → (size ≡ Arrays.push_size len size) × (0 ≡ Arrays.push_bytes len size)
 push-keeps len size ne = rw (eqb_no len size ne) (refl, refl)
 
-pub push-refused : {t : State} {w v : ℕ} {r : Located} {q : Refusal} → Good t → Locates t.slots t.heap.fresh w 6 r → r ≡ L.Refused q → Performs (Calls.push w v) t (refused q) t
+pub push-refused : {t : State} {w v : ℕ} {r : Result ℕ Refusal} {q : Refusal} → Good t → Locates t.slots t.heap.fresh w 6 r → r ≡ Err q → Performs (Calls.push w v) t (refused q) t
 unfolding terms effect charging
 push-refused {w = w} {v = v} g d e l = object-refused l g (Calls.push w v) {rest = []} d e says_array refl refl
 
@@ -225,10 +224,10 @@ module _ {t : State} {w i : ℕ} {h : Header} (m : ArrayHere t w i h) where
         rw u.heap
         (does_stored_charged l m.good m.target.reached (push_stored it p l) (Calls.push w v) refl (charge-is en v l) f.0 f.1 (push_passes v l) refl refl)
 
-  pub push-done : {v size n : ℕ} {q : Top} {b : Account} {a : State} → size ≡ Arrays.push_size h.len h.size → size - h.size ≤ length t.cells - t.heap.taken → Extended t i size h.mode v q a →
+  pub push-done : {v size n : ℕ} {b : Account} {a : State} → size ≡ Arrays.push_size h.len h.size → size - h.size ≤ length t.cells - t.heap.taken → Extended t i size h.mode v a →
       n ≡ Arrays.push_bytes h.len h.size → (fits t.heap.account n ≡ true) × (b ≡ charged t.heap.account n) →
-      Performs (Calls.push w v) t (answered nothing) (state (with_regions t.heap b q.cells q.entries (t.heap.taken + (size - h.size))) a.slots t.scalars t.list a.directory a.cells)
-  push-done e o x en f = pushed e o (made_longer m.good (push_asks e o) m.header x.grown refl) en f x.item x.appended
+      Performs (Calls.push w v) t (answered nothing) (state (with_regions a.heap b a.heap.top a.heap.entries (a.heap.taken + (size - h.size))) a.slots t.scalars t.list a.directory a.cells)
+  push-done e o x en f = pushed e o (longer-made m.good (push_asks e o) m.header x.longer) en f x.item x.appended
 
   -- ---- where the array has room for the item, it keeps its region
 

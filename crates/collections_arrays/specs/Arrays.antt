@@ -2,11 +2,9 @@
 use Rattle.std.specs.Prelude.{ℕ, ◌+◌, ◌*◌, ◌≤◌, ◌<◌, ◌≡◌, cond, List, eqb, length, set}
 use Rattle.heap_slots.specs.Header.{header_at}
 use Rattle.heap_slots.specs.Limits.{CELLS_MAX, SLOT_WORDS, SLOTS_MAX}
-use Rattle.heap_cells.specs.Regions.{Grown}
-use Rattle.heap_cells.specs.declared.Top.{Top}
 use Rattle.map_store.specs.Store.{grown_by, grown_capacity}
-use Rattle.heap.specs.State.{State}
-use Rattle.collections_growth.specs.Growth.{Lengthening}
+use Rattle.heap.specs.State.{State, with_moved}
+use Rattle.collections_growth.specs.Growth.{Lengthening, Longer}
 use Rattle.collections_growth.specs.Words.{ItemIs}
 
 -- "a full array of capacity c grows to the larger of 2c and 4 and is charged the larger of c and 4 (× 8)"
@@ -34,10 +32,10 @@ pub record Extending (t : State) (i size : ℕ) : Type 0 where
   pub room : (header_at t.slots i).len < size
 
 -- from b to a: its region became longer, then the item was written
-pub record Extended (b : State) (i size type v : ℕ) (q : Top) (a : State) : Type 0 where
+pub record Extended (b : State) (i size type v : ℕ) (a : State) : Type 0 where
   pub slots : List ℕ
   pub cells : List ℕ
   pub word : ℕ
-  pub grown : Grown b.heap.fresh i size q b.slots b.directory b.cells slots a.directory cells
+  pub longer : Longer b i size (with_moved b a.heap slots a.directory cells)
   pub item : ItemIs b type v word
   pub appended : Appended slots cells a.slots a.cells i word

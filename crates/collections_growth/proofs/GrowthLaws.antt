@@ -1,22 +1,21 @@
 -- A region that is made longer. Assumes nothing.
 use Prim.Native.Nat.{ℕ, ◌+◌, ◌*◌, ◌-◌, ◌≤◌, ◌<◌}
-use mathlib.Core.Path.{◌≡◌, refl, ap}
+use mathlib.Core.Path.{◌≡◌, refl, ap, ◌∙◌}
 use mathlib.Core.List.{List}
 use native.Mathlib.Omega.{arith}
 use lib.ListN.{length}
 use lib.Seq.{take-take}
 use Rattle.account.specs.declared.Account.{Account}
 use Rattle.heap_slots.specs.Header.{header_at, with_region}
-use Rattle.heap_slots.specs.Limits.{CELLS_MAX, DIRECTORY_MAX, HasSlot}
+use Rattle.heap_slots.specs.Limits.{DIRECTORY_MAX, HasSlot}
 use Rattle.heap_slots.specs.declared.Header.{Header}
 use Rattle.heap_cells.specs.Regions.{Grown, Growing, sizes_of}
-use Rattle.heap_cells.specs.declared.Top.{Top}
 use Rattle.heap.specs.declared.Heap.{Heap}
 use Rattle.heap.specs.State.{State, with_regions}
 use Rattle.heap.specs.Good.{Good}
 use Rattle.heap.proofs.StepLaws.{touched_account, touched_grown}
 use Rattle.heap.proofs.TouchLaws.{Touched, touched_none}
-use Rattle.collections_growth.specs.Growth.{Lengthened, Lengthening, top_of}
+use Rattle.collections_growth.specs.Growth.{Lengthened, Lengthening, Longer, top_of}
 
 -- ---- what a longer region asks
 
@@ -37,9 +36,6 @@ module _ {t : State} {i size : ℕ} (g : Good t) (w : Lengthening t i size) wher
   pub slot-header-fits : HasSlot t.slots i
   slot-header-fits = (omega (arith, w.within, g.fresh, g.slots_max), omega (arith, w.within, g.fresh, g.slots_fit))
 
-  pub taken-fits : {h : Header} → h ≡ header_at t.slots i → t.heap.taken + (size - h.size) ≤ CELLS_MAX
-  taken-fits e = rw e (omega (arith, w.fits, w.more, g.laid.cells_max))
-
   -- ---- the region as long as it was
 
   same-header : (h : Header) → h.size ≡ size → h ≡ with_region h size h.start h.entry
@@ -56,20 +52,25 @@ module _ {t : State} {i size : ℕ} (g : Good t) (w : Lengthening t i size) wher
     cells_len = refl;
   }
 
-  pub stays-long : {a : Account} {r : Heap} {h : Header} → h ≡ header_at t.slots i → size ≤ h.size → r ≡ with_regions t.heap a t.heap.top t.heap.entries (t.heap.taken + 0) →
-      Lengthened t i size a r t.slots t.directory t.cells
-  stays-long {a} {r} e l er =
+  -- the record stays too
+  pub stays-longer : {h : Header} → h ≡ header_at t.slots i → size ≤ h.size → Longer t i size t
+  stays-longer e l = record { heap = refl; grown = same-grown (omega (arith, w.more, (rw e at l))) }
+
+  -- nothing is charged, and no cell is taken
+  pub stays_same : {h : Header} → h ≡ header_at t.slots i → size ≤ h.size → Lengthened t i size t.heap.account t.heap t.slots t.directory t.cells
+  stays_same e l =
       let s : (header_at t.slots i).size ≡ size = omega (arith, w.more, (rw e at l)) in
       let z : size - (header_at t.slots i).size ≡ 0 = omega arith in
-      rw er record { heap = rw z; grown = same-grown s }
+      let n : t.heap.taken + 0 ≡ t.heap.taken = omega arith in
+      record { heap = rw (z, n); grown = same-grown s }
 
-  -- nothing is charged, and the record stays
-  pub stays_same : {h : Header} → h ≡ header_at t.slots i → size ≤ h.size → Lengthened t i size t.heap.account t.heap t.slots t.directory t.cells
-  stays_same e l = let z : t.heap.taken + 0 ≡ t.heap.taken = omega arith in stays-long e l (rw z)
-
-  pub made_longer : {a : Account} {r : Heap} {h : Header} {q : Top} {s' dir' c' : List ℕ} → h ≡ header_at t.slots i → Grown t.heap.fresh i size q t.slots t.directory t.cells s' dir' c' →
-      r ≡ with_regions t.heap a q.cells q.entries (t.heap.taken + (size - h.size)) → Lengthened t i size a r s' dir' c'
-  made_longer e w er = rw er record { heap = rw e; grown = w }
+  -- charged, and its cells taken
+  pub longer-made : {a : Account} {h : Header} {m : State} → h ≡ header_at t.slots i → Longer t i size m →
+      Lengthened t i size a (with_regions m.heap a m.heap.top m.heap.entries (m.heap.taken + (size - h.size))) m.slots m.directory m.cells
+  longer-made {a} {h} {m} e u = record {
+    heap = ap (λ (z : Heap). with_regions z a m.heap.top m.heap.entries (z.taken + (size - h.size))) u.heap ∙ rw e;
+    grown = u.grown;
+  }
 
   -- ---- the state with the longer region
 

@@ -1,4 +1,5 @@
 -- The row of a reading of one object: the refusals, the answer. Assumes nothing.
+use Rattle.std.proofs.Common.{Result, Err}
 use Prim.Native.Nat.{ℕ}
 use mathlib.Core.Path.{◌≡◌}
 use mathlib.Core.Bool.{Bool}
@@ -10,8 +11,6 @@ use Rattle.model.specs.Replies.{Reply}
 use Rattle.model.specs.Model.{view_of}
 use Rattle.model.specs.Refusals.{target}
 use Rattle.model.specs.Terms.{terms, uncharged}
-use Rattle.heap.specs.declared.Located.{Located}
-use Rattle.heap.specs.declared.Located.TheVariants as L
 use Rattle.heap.specs.declared.Refusal.{Refusal}
 use Rattle.heap.specs.Answers.{answered, refused}
 use Rattle.heap.specs.Locating.{Locates}
@@ -28,7 +27,7 @@ pub record Row (t : State) (k : Call) (is : Content → Bool) (w : ℕ) : Type 0
   pub terms_are : (l : Layout) → terms (model_of l t) k ≡ uncharged (target (view_of (model_of l t)) is w ∷ []) (terms (model_of l t) k).answer
 
 module _ {t : State} {k : Call} {is : Content → Bool} {w kind : ℕ} (g : Good t) (row : Row t k is w) (s : Says is kind) where
-  pub row-refused : {r : Located} {q : Refusal} → Locates t.slots t.heap.fresh w kind r → r ≡ L.Refused q → Reads k t (refused q)
+  pub row-refused : {r : Result ℕ Refusal} {q : Refusal} → Locates t.slots t.heap.fresh w kind r → r ≡ Err q → Reads k t (refused q)
   unfolding uncharged
   row-refused d e l = object-refused l g k {rest = []} d e s (rw (row.terms_are l)) (rw (row.terms_are l))
 

@@ -1,13 +1,11 @@
--- Regions that grow, and what a change hands on (document 01, "Slot and object").
+-- Regions that grow (document 01, "Slot and object").
 use Rattle.std.specs.Prelude.{ℕ, ◌+◌, ◌-◌, ◌≤◌, ◌<◌, ◌≡◌, List, length}
 use Rattle.heap_slots.specs.Header.{header_at}
 use Rattle.account.specs.declared.Account.{Account}
 use Rattle.heap_cells.specs.Regions.{Grown}
 use Rattle.heap_cells.specs.declared.Top.{Top}
 use Rattle.heap.specs.declared.Heap.{Heap}
-use Rattle.heap.specs.declared.Done.{Done}
 use Rattle.heap.specs.State.{State, with_regions}
-use Rattle.collections_growth.specs.declared.Changed.{Changed}
 
 -- what a longer region asks: the cells of all regions fit
 pub record Lengthening (t : State) (i size : ℕ) : Type 0 where
@@ -18,12 +16,10 @@ pub record Lengthening (t : State) (i size : ℕ) : Type 0 where
 abbrev pub top_of : Heap → Top
 top_of h = record { cells = h.top; entries = h.entries }
 
--- what a change has made of the record
-abbrev pub changed : Account → Top → ℕ → Done → Changed
-changed account top taken done = record { account = account; top = top; taken = taken; done = done }
-
-abbrev pub changed_heap : Heap → Changed → Heap
-changed_heap h c = with_regions h c.account c.top.cells c.top.entries c.taken
+-- from b to a: the region of slot i has `size` cells, its first ones those that it had; of the record only the regions' top changed
+pub record Longer (b : State) (i size : ℕ) (a : State) : Type 0 where
+  pub heap : a.heap ≡ with_regions b.heap b.heap.account a.heap.top a.heap.entries b.heap.taken
+  pub grown : Grown b.heap.fresh i size (top_of a.heap) b.slots b.directory b.cells a.slots a.directory a.cells
 
 -- the region of slot i has `size` cells, its first ones those that it had; the record h
 pub record Lengthened (b : State) (i size : ℕ) (account : Account) (h : Heap) (s dir c : List ℕ) : Type 0 where

@@ -1,29 +1,23 @@
-// What arrays, maps and iterators share: a region that grows, and how a change is handed on.
+// What arrays, maps and iterators share: a map's record in its slot, items, the charge of nothing, a
+// region that grows.
 #![tactic(auto)]
 
 ghost use Rattle.std.specs.Prelude.{◌≡◌, ◌+◌, ◌≤◌, ◌<◌, length};
-ghost use Rattle.heap_cells.specs.Regions.{Grown, region_of};
+ghost use Rattle.heap_cells.specs.Regions.{region_of};
 ghost use Rattle.heap.specs.State.{state};
 ghost use Rattle.heap.specs.Good.{Good};
-ghost use Rattle.collections_growth.specs.Words.{map_from, ItemIs, ZeroCharge};
-ghost use Rattle.collections_growth.specs.Growth.{Lengthening, changed, changed_heap, top_of};
+ghost use Rattle.heap.specs.View.{held};
+ghost use Rattle.collections_growth.specs.Words.{map_from, ItemIs, MapIn, MapKnown, ZeroCharge};
+ghost use Rattle.collections_growth.specs.Growth.{Lengthening, Longer};
 
 use account::Account;
-use heap::{Done, Heap, Refusal, Settled};
+use heap::{Heap, HeapView};
 use heap_cells::Top;
 use heap_slots::{Header, MapScalars};
-use map_store::MapStore;
+use map_store::{Map, MapStore};
 
 // The type of items that are seen through a box.
 const DYNAMIC: u64 = 2;
-
-// A position, an item or a key; or that there is none.
-#[derive(Clone, Copy)]
-pub enum Perhaps {
-    Is(u64),
-    Absent,
-    Refused(Refusal),
-}
 
 // The map of a slot with this header and these scalars.
 pub fn map_of(h: Header, x: MapScalars) -> MapStore
@@ -47,7 +41,7 @@ pub fn map_of(h: Header, x: MapScalars) -> MapStore
 }
 
 // The cells of a slot with this header.
-pub fn region(cells: &[u64], h: Header) -> &[u64]
+fn region(cells: &[u64], h: Header) -> &[u64]
     requires { h.start + h.size ≤ length cells.now }
     ensures { result.now ≡ region_of h cells.now }
 {
@@ -56,24 +50,26 @@ pub fn region(cells: &[u64], h: Header) -> &[u64]
     &cells[from..to]
 }
 
+// The map of a slot with this header and these scalars, over its cells.
+pub fn map_in(cells: &[u64], h: Header, x: MapScalars) -> Map<'_>
+    requires { MapKnown cells.now h x }
+    ensures { MapIn cells.now h x result }
+{
+    Map {
+        store: map_of(h, x),
+        cells: region(cells, h),
+    }
+}
+
 // An item as it is pushed, popped or visited: dynamic ones are seen through a box.
-pub fn item(
-    heap: Heap,
-    slots: &[u64],
-    scalars: &[u64],
-    list: &[u64],
-    directory: &[u64],
-    cells: &[u64],
-    t: u64,
-    w: u64,
-) -> u64
-    requires { Good (state heap slots.now scalars.now list.now directory.now cells.now) }
-    ensures { ItemIs (state heap slots.now scalars.now list.now directory.now cells.now) t w result }
+pub fn item(view: &HeapView<'_>, t: u64, w: u64) -> u64
+    ensures { ItemIs (held view.now) t w result }
 {
     if t == DYNAMIC {
-        return heap::deref(heap, slots, scalars, list, directory, cells, w);
+        heap::deref(view, w)
+    } else {
+        w
     }
-    w
 }
 
 // "Zero bytes is a charge too": refused where used exceeds the limit, and it changes nothing.
@@ -83,50 +79,10 @@ pub fn zero_fits(account: Account) -> bool
     account.used <= account.limit
 }
 
-// What a change has made of the record: its account, the regions' top and the cells in use. The rest
-// of the record is as it was and is not handed on, so that no call copies it from exit to exit.
-#[derive(Clone, Copy)]
-pub struct Changed {
-    pub account: Account,
-    pub top: Top,
-    pub taken: u64,
-    pub done: Done,
-}
-
-pub fn unchanged(heap: Heap, done: Done) -> Changed
-    ensures { result ≡ changed heap.account (top_of heap) heap.taken done }
-{
-    let account = heap.account;
-    let top = Top {
-        cells: heap.top,
-        entries: heap.entries,
-    };
-    Changed {
-        account,
-        top,
-        taken: heap.taken,
-        done,
-    }
-}
-
-// The record with what was changed.
-pub fn settle(heap: Heap, c: Changed) -> Settled
-    ensures { (result.heap ≡ changed_heap heap c) × (result.done ≡ c.done) }
-{
-    let account = c.account;
-    let top = c.top;
-    let done = c.done;
-    let mut g = heap;
-    g.account = account;
-    g.top = top.cells;
-    g.entries = top.entries;
-    g.taken = c.taken;
-    Settled { heap: g, done }
-}
-
-// The region of slot i made `size` cells long, not shorter than it is; the regions' top afterwards.
+// The region of slot i made `size` cells long, not shorter than it is. The record keeps its account
+// and its cells in use: the caller writes them.
 pub fn longer(
-    heap: Heap,
+    heap: &mut Heap,
     slots: &mut [u64],
     scalars: &[u64],
     list: &[u64],
@@ -134,27 +90,20 @@ pub fn longer(
     cells: &mut [u64],
     i: usize,
     size: u64,
-) -> Top
-    requires good { Good (state heap slots.old scalars.now list.now directory.old cells.old) }
-    requires room { Lengthening (state heap slots.old scalars.now list.now directory.old cells.old) i size }
-    ensures { Grown heap.fresh i size result slots.old directory.old cells.old slots.new directory.new cells.new }
+)
+    requires good { Good (state heap.old slots.old scalars.now list.now directory.old cells.old) }
+    requires room { Lengthening (state heap.old slots.old scalars.now list.now directory.old cells.old) i size }
+    ensures { Longer (state heap.old slots.old scalars.now list.now directory.old cells.old) i size (state heap.new slots.new scalars.now list.now directory.new cells.new) }
 {
-    let h = heap_slots::read_header(slots, i);
-    let t = Top {
+    if size <= heap_slots::read_header(slots, i).size {
+        return;
+    }
+    let before = Top {
         cells: heap.top,
         entries: heap.entries,
     };
-    if size <= h.size {
-        return t;
-    }
-    heap_cells::grow(
-        slots,
-        heap.fresh,
-        directory,
-        heap.size * 2,
-        t,
-        cells,
-        i,
-        size,
-    )
+    let most = heap.size * 2;
+    let after = heap_cells::grow(slots, heap.fresh, directory, most, before, cells, i, size);
+    heap.top = after.cells;
+    heap.entries = after.entries;
 }

@@ -29,11 +29,9 @@ use Rattle.model.specs.Model.{view_of}
 use Rattle.model.specs.Refusals.{target, unless}
 use Rattle.model.specs.Rules.{key_type_of, start_cursor}
 use Rattle.model.specs.Terms.{iterable, terms}
-use Rattle.heap.specs.declared.Reading.{Reading}
-use Rattle.heap.specs.declared.Reading.TheVariants as Read
 use Rattle.heap.specs.declared.Refusal.{Refusal}
 use Rattle.heap.specs.declared.Refusal.TheVariants as No
-use Rattle.heap.specs.Answers.{made_is, number_of}
+use Rattle.heap.specs.Answers.{made_is, missing, number_of}
 use Rattle.heap.specs.Kinds.{content_of}
 use Rattle.heap.specs.State.{State, model_of, more_of, raw_of}
 use Rattle.heap.specs.Good.{Good}
@@ -43,7 +41,7 @@ use Rattle.heap.proofs.DoesLaws.{first_none, first_passes, first_refuses}
 use Rattle.heap.proofs.KindLaws.{content-array, content-iterator, content-map, iterable_test, room-none, row_of_content}
 use Rattle.heap.proofs.ReachLaws.{dead-look, dead-target, found-reached, nil-look, nil-target, reached-look, reached-target, wrong_look, wrong_target}
 use Rattle.heap_allocation.specs.Making.{headerOf}
-use Rattle.heap_allocation.proofs.MakeLaws.{Means, makes, next_more, plain_performs, ready-scalars, ready_self, refused-own}
+use Rattle.heap_allocation.proofs.MakeLaws.{Means, makes, refused-own, scalars_performs}
 use Rattle.collections_iterators.specs.Beginning.{Begins, unbegun}
 use Rattle.collections_iterators.proofs.VisitLaws.{iterator-good}
 
@@ -77,36 +75,32 @@ no_keys (coroutine a) z = refl
 
 module _ {t : State} (g : Good t) {source : ℕ} where
   -- what it goes over gives the type of its keys, and passes
-  iterator-made : (keys : ℕ) {r : Reading} {a : State} → ((l : Layout) → key_type_of (look (view_of (model_of l t)) source) ≡ keys) → ((l : Layout) → target (view_of (model_of l t)) iterable source ≡ 0) → Begins t source keys r a →
+  iterator-made : (keys : ℕ) {r : Result ℕ Refusal} {a : State} → ((l : Layout) → key_type_of (look (view_of (model_of l t)) source) ≡ keys) → ((l : Layout) → target (view_of (model_of l t)) iterable source ≡ 0) → Begins t source keys r a →
       Performs (Calls.new_iter source) t (made_is r) a
   unfolding effect terms bytes_of cells_of
   iterator-made keys k p d =
       let a = g.weights.slot in
       let b = g.weights.iterator in
-      plain_performs g
+      scalars_performs unbegun g
       (makes {c = new_iterator source keys} {s = no_room} (λ l. target (view_of (model_of l t)) iterable source ∷ []) (λ l. rw (k l)) (λ l. refl) (λ l. first_passes [] (p l) ∙ first_none))
       (sym (saturated-below (t.heap.weights.slot + t.heap.weights.iterator) (omega arith))) refl
-      (λ j. ready-scalars (ready_self g j) unbegun)
-      (λ j. rw (next_more (ready_self g j).placeable unbegun) (iterator_means source keys))
+      (iterator_means source keys)
       d
 
   iterator-refused : (q : Refusal) (keys : ℕ) → ((l : Layout) → key_type_of (look (view_of (model_of l t)) source) ≡ keys) → ((l : Layout) → target (view_of (model_of l t)) iterable source ≡ number_of q) →
-      Performs (Calls.new_iter source) t (made_is (Read.Refused q)) t
+      Performs (Calls.new_iter source) t (made_is (Err q)) t
   unfolding effect terms
   iterator-refused q keys k p = refused-own {c = new_iterator source keys} {s = no_room} q (λ l. target (view_of (model_of l t)) iterable source ∷ []) g (λ l. rw (k l)) (λ l. refl) (λ l. first_refuses [] q (p l))
 
   module _ {f : Result ℕ Miss} (d : Finds t.slots t.heap.fresh source f) where
-    pub iterates_nil : f ≡ Err F.Nil → Performs (Calls.new_iter source) t (made_is (Read.Refused No.NilTarget)) t
-    unfolding key_type_of number_of
-    iterates_nil e = iterator-refused No.NilTarget 0 (λ l. rw (nil-look l g d e)) (λ l. nil-target l g d e iterable)
+    missed_by : (m : Miss) → f ≡ Err m → Performs (Calls.new_iter source) t (made_is (Err (missing m))) t
+    unfolding key_type_of number_of missing
+    missed_by F.Nil e = iterator-refused No.NilTarget 0 (λ l. rw (nil-look l g d e)) (λ l. nil-target l g d e iterable)
+    missed_by F.Dead e = iterator-refused No.DeadReference 0 (λ l. rw (dead-look l g d e)) (λ l. dead-target l g d e iterable)
+    missed_by F.Wrong e = iterator-refused No.OtherKind 0 (λ l. rw (wrong_look l g d e)) (λ l. wrong_target l g d e iterable)
 
-    pub iterates_dead : f ≡ Err F.Dead → Performs (Calls.new_iter source) t (made_is (Read.Refused No.DeadReference)) t
-    unfolding key_type_of number_of
-    iterates_dead e = iterator-refused No.DeadReference 0 (λ l. rw (dead-look l g d e)) (λ l. dead-target l g d e iterable)
-
-    pub iterates_wrong : f ≡ Err F.Wrong → Performs (Calls.new_iter source) t (made_is (Read.Refused No.OtherKind)) t
-    unfolding key_type_of number_of
-    iterates_wrong e = iterator-refused No.OtherKind 0 (λ l. rw (wrong_look l g d e)) (λ l. wrong_target l g d e iterable)
+    pub iterates_missed : {m : Miss} → f ≡ Err m → Performs (Calls.new_iter source) t (made_is (Err (missing m))) t
+    iterates_missed e = missed_by _ e
 
     module _ {j : ℕ} {h : Header} (e : f ≡ Ok j) (eh : h ≡ header_at t.slots j) where
       row_is : row (content_of (raw_of t j) (more_of t j)) ≡ h.kind
@@ -121,19 +115,19 @@ module _ {t : State} (g : Good t) {source : ℕ} where
           let o = found-reached g d e in
           reached-target o l iterable ∙ rw eh (ap (λ (b : Bool). unless b 2) (iterable_test (raw_of t j) (more_of t j) (omega (arith, o.present)) (g.each j o.within).kind))
 
-      pub iterates_array : {r : Reading} {a : State} → h.kind ≡ 6 → Begins t source 0 r a → Performs (Calls.new_iter source) t (made_is r) a
+      pub iterates_array : {r : Result ℕ Refusal} {a : State} → h.kind ≡ 6 → Begins t source 0 r a → Performs (Calls.new_iter source) t (made_is r) a
       unfolding key_type_of unless raw_at
       iterates_array k v =
           let o = found-reached g d e in
           iterator-made 0 (λ l. rw (reached-look o l, content-array (raw_of t j) (more_of t j) (rw (← eh) k))) (λ l. source_test l ∙ rw k) v
 
-      pub iterates_map : {x : MapScalars} {r : Reading} {a : State} → h.kind ≡ 7 → x ≡ map_part (scalars_at t.scalars j) → Begins t source x.keys r a → Performs (Calls.new_iter source) t (made_is r) a
+      pub iterates_map : {x : MapScalars} {r : Result ℕ Refusal} {a : State} → h.kind ≡ 7 → x ≡ map_part (scalars_at t.scalars j) → Begins t source x.keys r a → Performs (Calls.new_iter source) t (made_is r) a
       unfolding key_type_of unless raw_at
       iterates_map {x} k ex v =
           let o = found-reached g d e in
           iterator-made x.keys (λ l. rw (reached-look o l, content-map (raw_of t j) (more_of t j) (rw (← eh) k), ex)) (λ l. source_test l ∙ rw k) v
 
-      pub iterates_else : (h.kind ≡ 6 → ⊥) → (h.kind ≡ 7 → ⊥) → Performs (Calls.new_iter source) t (made_is (Read.Refused No.OtherKind)) t
+      pub iterates_else : (h.kind ≡ 6 → ⊥) → (h.kind ≡ 7 → ⊥) → Performs (Calls.new_iter source) t (made_is (Err No.OtherKind)) t
       unfolding unless number_of
       iterates_else a b =
           let o = found-reached g d e in

@@ -1,4 +1,5 @@
 -- Readings of an iterator. Assumes nothing.
+use Rattle.std.proofs.Common.{Result, Ok, Err, Some, None}
 use Prim.Native.Nat.{ℕ, ◌<◌}
 use mathlib.Core.Path.{◌≡◌, refl, ap, ◌∙◌}
 use mathlib.Core.Bool.{false, cond}
@@ -12,7 +13,6 @@ use Rattle.heap_slots.specs.declared.IteratorScalars.{IteratorScalars}
 use Rattle.heap_cells.specs.Regions.{raw_at}
 use Rattle.history.proofs.Facts.{eqb_no, eqb_yes}
 use Rattle.layout.specs.Layout.{Layout}
-use Rattle.map_store.specs.Store as Maps
 use Rattle.model.specs.Calls as Calls
 use Rattle.model.specs.Calls.{effect}
 use Rattle.model.specs.Content.{Content, Iterator, array, box, cell, closure, coroutine, error, integer, iterator, map_object, row, string, struct}
@@ -21,11 +21,13 @@ use Rattle.model.specs.Replies.{array_cursor, map_cursor, nothing, number, perha
 use Rattle.model.specs.Model.{view_of}
 use Rattle.model.specs.Terms.{cursor_reply, last_key, read_or, terms, uncharged}
 use Rattle.heap.proofs.GoodLaws.{holds_as}
-use Rattle.heap.specs.declared.Located.{Located}
-use Rattle.heap.specs.declared.Located.TheVariants as L
 use Rattle.heap.specs.declared.Refusal.{Refusal}
-use Rattle.heap.specs.declared.Reading.TheVariants as Read
-use Rattle.heap.specs.Answers.{answered, reading_is, refused}
+use Rattle.heap.specs.Answers.{reading_is, seen_by, test_is}
+use Rattle.collections_growth.specs.Answers.{perhaps_is}
+use Rattle.collections_iterators.specs.Answers.{cursor_answer, cursor_seen}
+use Rattle.collections_iterators.specs.declared.CursorAt.TheVariants as C
+use Rattle.map_store.specs.View as View
+use Rattle.map_store.specs.declared.Cursor.{Cursor}
 use Rattle.heap.specs.Kinds.{cursor_of, yes}
 use Rattle.heap.specs.Kinds as Kinds
 use Rattle.heap.specs.Locating.{Locates, Ranks}
@@ -56,22 +58,22 @@ cursor-reply x (some (closure a)) = refl
 cursor-reply x (some (iterator a)) = refl
 cursor-reply x (some (coroutine a)) = refl
 
-module _ {t : State} {w i : ℕ} {r : Located} (g : Good t) (d : Locates t.slots t.heap.fresh w 10 r) (e : r ≡ L.At i) where
+module _ {t : State} {w i : ℕ} {r : Result ℕ Refusal} (g : Good t) (d : Locates t.slots t.heap.fresh w 10 r) (e : r ≡ Ok i) where
   pub iterator-scalars-fit : HasSlot t.scalars i
   iterator-scalars-fit = scalars_fit g (located_at g d e).reached
 
   module _ {h : Header} (p : h ≡ header_at t.slots i) where
-    pub source_read : Reads (Calls.iter_source w) t (reading_is (Read.Is h.value))
-    unfolding terms effect uncharged reading_is raw_at
+    pub source_read : Reads (Calls.iter_source w) t (reading_is (Ok h.value))
+    unfolding terms effect uncharged seen_by raw_at
     source_read = row-answered g record { effect_is = λ l. refl; terms_are = λ l. refl } says_iterator (located_at g d e) (λ l. ap number (reads_iterator l 0 (λ y. y.source) (located_at g d e) ∙ rw p))
 
-    pub keys_read : Reads (Calls.iter_key_type w) t (reading_is (Read.Is h.mode))
-    unfolding terms effect uncharged reading_is raw_at
+    pub keys_read : Reads (Calls.iter_key_type w) t (reading_is (Ok h.mode))
+    unfolding terms effect uncharged seen_by raw_at
     keys_read = row-answered g record { effect_is = λ l. refl; terms_are = λ l. refl } says_iterator (located_at g d e) (λ l. ap number (reads_iterator l 0 (λ y. y.key_type) (located_at g d e) ∙ rw p))
 
   module _ {x : IteratorScalars} (p : x ≡ iterator_part (scalars_at t.scalars i)) where
-    pub ended_read : Reads (Calls.iter_ended w) t (answered (truth (yes x.ended)))
-    unfolding terms effect uncharged
+    pub ended_read : Reads (Calls.iter_ended w) t (test_is (Ok (yes x.ended)))
+    unfolding terms effect uncharged seen_by
     ended_read = row-answered g record { effect_is = λ l. refl; terms_are = λ l. refl } says_iterator (located_at g d e) (λ l. ap truth (reads_iterator l false (λ y. y.ended) (located_at g d e) ∙ rw p))
 
     pub cursor-fits : x.epoch < 4294967296
@@ -81,12 +83,12 @@ module _ {t : State} {w i : ℕ} {r : Located} (g : Good t) (d : Locates t.slots
     unfolding last_key
     key-is l = reads_iterator l none (λ y. y.key) (located_at g d e) ∙ rw p
 
-    pub key-none : x.keyed ≡ 0 → Reads (Calls.iter_key w) t (answered (perhaps none))
-    unfolding terms effect uncharged
+    pub key-none : x.keyed ≡ 0 → Reads (Calls.iter_key w) t (perhaps_is (Ok None))
+    unfolding terms effect uncharged seen_by
     key-none z = row-answered g record { effect_is = λ l. refl; terms_are = λ l. refl } says_iterator (located_at g d e) (λ l. ap perhaps (key-is l ∙ rw (eqb_yes x.keyed 0 z)))
 
-    pub key-some : (x.keyed ≡ 0 → ⊥) → Reads (Calls.iter_key w) t (answered (perhaps (some x.key)))
-    unfolding terms effect uncharged
+    pub key-some : (x.keyed ≡ 0 → ⊥) → Reads (Calls.iter_key w) t (perhaps_is (Ok (Some x.key)))
+    unfolding terms effect uncharged seen_by
     key-some z = row-answered g record { effect_is = λ l. refl; terms_are = λ l. refl } says_iterator (located_at g d e) (λ l. ap perhaps (key-is l ∙ rw (eqb_no x.keyed 0 z)))
 
     module _ {h : Header} {n : ℕ} (a : h ≡ header_at t.slots i) (k : Ranks t.slots t.heap.fresh h.value n) where
@@ -96,33 +98,33 @@ module _ {t : State} {w i : ℕ} {r : Located} (g : Good t) (d : Locates t.slots
           reads_iterator l nothing (λ y. cursor_reply y (look (view_of (model_of l t)) y.source)) (located_at g d e)
           ∙ rw (← a) (cursor-reply _ (look (view_of (model_of l t)) h.value) ∙ rw (← row-array (view_of (model_of l t)) h.value, row_read l g k, p))
 
-      pub cursor-index : n ≡ 6 → Reads (Calls.iter_cursor w) t (answered (array_cursor x.position))
-      unfolding terms effect uncharged
+      pub cursor-index : n ≡ 6 → Reads (Calls.iter_cursor w) t (cursor_seen (Ok (C.Index x.position)))
+      unfolding terms effect uncharged seen_by cursor_answer
       cursor-index z = row-answered g record { effect_is = λ l. refl; terms_are = λ l. refl } says_iterator (located_at g d e) (λ l. cursor-is l ∙ rw (eqb_yes n 6 z))
 
-      pub cursor-map : {c : Maps.Cursor} → (n ≡ 6 → ⊥) → c ≡ cursor_of (scalars_of_iterator x) → Reads (Calls.iter_cursor w) t (answered (map_cursor c))
-      unfolding terms effect uncharged
-      cursor-map z y = row-answered g record { effect_is = λ l. refl; terms_are = λ l. refl } says_iterator (located_at g d e) (λ l. cursor-is l ∙ rw (eqb_no n 6 z, y))
+      pub cursor-map : (c : Cursor) → (n ≡ 6 → ⊥) → View.cursor_is c ≡ cursor_of (scalars_of_iterator x) → Reads (Calls.iter_cursor w) t (cursor_seen (Ok (C.Map c)))
+      unfolding terms effect uncharged seen_by cursor_answer
+      cursor-map c z y = row-answered g record { effect_is = λ l. refl; terms_are = λ l. refl } says_iterator (located_at g d e) (λ l. cursor-is l ∙ rw (eqb_no n 6 z, y))
 
 -- ---- 1, 11 and 2
 
-module _ {t : State} {w : ℕ} {r : Located} {q : Refusal} (g : Good t) (d : Locates t.slots t.heap.fresh w 10 r) (e : r ≡ L.Refused q) where
-  pub source-refused : Reads (Calls.iter_source w) t (reading_is (Read.Refused q))
-  unfolding terms effect uncharged reading_is
+module _ {t : State} {w : ℕ} {r : Result ℕ Refusal} {q : Refusal} (g : Good t) (d : Locates t.slots t.heap.fresh w 10 r) (e : r ≡ Err q) where
+  pub source-refused : Reads (Calls.iter_source w) t (reading_is (Err q))
+  unfolding terms effect uncharged seen_by
   source-refused = row-refused g record { effect_is = λ l. refl; terms_are = λ l. refl } says_iterator d e
 
-  pub keys-refused : Reads (Calls.iter_key_type w) t (reading_is (Read.Refused q))
-  unfolding terms effect uncharged reading_is
+  pub keys-refused : Reads (Calls.iter_key_type w) t (reading_is (Err q))
+  unfolding terms effect uncharged seen_by
   keys-refused = row-refused g record { effect_is = λ l. refl; terms_are = λ l. refl } says_iterator d e
 
-  pub ended-refused : Reads (Calls.iter_ended w) t (refused q)
-  unfolding terms effect uncharged
+  pub ended-refused : Reads (Calls.iter_ended w) t (test_is (Err q))
+  unfolding terms effect uncharged seen_by
   ended-refused = row-refused g record { effect_is = λ l. refl; terms_are = λ l. refl } says_iterator d e
 
-  pub key-refused : Reads (Calls.iter_key w) t (refused q)
-  unfolding terms effect uncharged
+  pub key-refused : Reads (Calls.iter_key w) t (perhaps_is (Err q))
+  unfolding terms effect uncharged seen_by
   key-refused = row-refused g record { effect_is = λ l. refl; terms_are = λ l. refl } says_iterator d e
 
-  pub cursor-refused : Reads (Calls.iter_cursor w) t (refused q)
-  unfolding terms effect uncharged
+  pub cursor-refused : Reads (Calls.iter_cursor w) t (cursor_seen (Err q))
+  unfolding terms effect uncharged seen_by
   cursor-refused = row-refused g record { effect_is = λ l. refl; terms_are = λ l. refl } says_iterator d e

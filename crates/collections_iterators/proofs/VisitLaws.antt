@@ -8,6 +8,8 @@ use mathlib.Core.Option.{Option, none, some}
 use native.Mathlib.Omega.{arith}
 use native.Mathlib.Numerals.{add-one}
 use lib.Dec.{leb}
+use mir.Val.{bool_byte}
+use Rattle.std.specs.Option.{is_some, unwrap_or}
 use lib.ListN.{get_or, length, take}
 use lib.Seq.{get_or-take, length-take-le}
 use Rattle.heap_slots.specs.Header.{header_at, scalars_at, set_scalars, with_scalar}
@@ -25,7 +27,7 @@ use Rattle.heap_cells.proofs.RawLaws.{region-get, region-length}
 use Rattle.history.proofs.Facts.{eqb_no, eqb_yes, ltb_no, ltb_yes}
 use Rattle.layout.specs.Layout.{Layout}
 use Rattle.map_store.specs.Store as Maps
-use Rattle.map_store.specs.View.{cursor_is, entry_answer, stored_entry, got_is, position, step_is, store_of}
+use Rattle.map_store.specs.View.{cursor_is, last_is, entry_answer, stored_entry, got_is, position, step_is, store_of}
 use Rattle.std.specs.Prelude as Prelude
 use Rattle.map_store.specs.declared.MapStore.{MapStore}
 use Rattle.map_store.specs.declared.Stepped.{Stepped}
@@ -41,10 +43,8 @@ use Rattle.model.specs.Terms.{terms, uncharged, visited}
 use Rattle.model.specs.Rules.{advance, same_room, visit_array, visit_entry, visit_map, visit_next, visit_source}
 use Rattle.model.specs.Rules as Rules
 use Rattle.heap.proofs.GoodLaws.{good_as, holds_as}
-use Rattle.heap.specs.declared.Located.{Located}
-use Rattle.heap.specs.declared.Located.TheVariants as L
 use Rattle.heap.specs.declared.Refusal.{Refusal}
-use Rattle.heap.specs.Answers.{answered, refused}
+use Rattle.heap.specs.Answers.{seen_by}
 use Rattle.heap.specs.Kinds.{content_of, cursor_of, yes}
 use Rattle.heap.specs.Locating.{Locates}
 use Rattle.heap.specs.State.{State, model_of, more_of, raw_of, with_scalars}
@@ -57,15 +57,15 @@ use Rattle.heap.proofs.StepLaws.{own-scalars, touched_scalars}
 use Rattle.heap.proofs.StoreLaws as StoreLaws
 use Rattle.heap.proofs.StoreLaws.{does_stored_free}
 use Rattle.heap.proofs.TouchLaws.{touched_none}
-use Rattle.collections_growth.specs.Words.{ItemIs, map_from}
+use Rattle.collections_growth.specs.Words.{ItemIs, MapKnown, map_from}
+use Rattle.collections_growth.specs.Answers.{perhaps_is}
 use Rattle.collections_iterators.specs.declared.Visit.{Visit}
-use Rattle.collections_iterators.specs.declared.Visited.TheVariants.{End, Item}
-use Rattle.collections_iterators.specs.Visits.{ArrayKnown, Ends, MapKnown, Moves, Visits, VisitsArray, VisitsMap, iterator_of, visit_is, visited_is}
+use Rattle.collections_iterators.specs.Visits.{ArrayKnown, Ends, Moves, Visits, VisitsArray, VisitsMap, iterator_of, visit_is}
 use Rattle.collections_growth.proofs.EntryLaws.{entry_beyond, entry-inside}
 
 -- ---- the end, and a move
 
-pub ends_so : (x : IteratorScalars) → Ends x record { next = iterator_part (with_scalar (scalars_of_iterator x) 0 1); item = End }
+pub ends_so : (x : IteratorScalars) → Ends x record { next = iterator_part (with_scalar (scalars_of_iterator x) 0 1); item = Prelude.None }
 unfolding Rules.ended
 ends_so x = record { is = λ source keys. refl; epoch = refl }
 
@@ -76,11 +76,9 @@ moves_so : (key d e f g : ℕ) → g < 4294967296 → Moves (cursor_of (scalars_
 unfolding Rules.moved
 moves_so key d e f g l = record { is = λ source keys w i a b. rw (a, b); epoch = l }
 
-pub moves_first : {key f g : ℕ} → g < 4294967296 → Moves record { last = none; pos = f; epoch = g } key (moved_scalars key 0 0 f g)
-moves_first {key} {f} {g} l = moves_so key 0 0 f g l
-
-pub moves_on : {key e f g : ℕ} → g < 4294967296 → Moves record { last = some e; pos = f; epoch = g } key (moved_scalars key 1 e f g)
-moves_on {key} {e} {f} {g} l = moves_so key 1 e f g l
+pub moves_to : (o : Prelude.Option ℕ) {key f g : ℕ} → g < 4294967296 → Moves record { last = last_is o; pos = f; epoch = g } key (moved_scalars key (bool_byte (is_some o)) (unwrap_or o 0) f g)
+moves_to Prelude.None {key} {f} {g} l = moves_so key 0 0 f g l
+moves_to (Prelude.Some e) {key} {f} {g} l = moves_so key 1 e f g l
 
 -- ---- over an array
 
@@ -93,7 +91,7 @@ module _ {t : State} {h : Header} (k : ArrayKnown t h) where
   array-ends {x} l g e = record { is = λ lay source keys. rw (items-long, ltb_no x.position h.len l) (e.is source keys); epoch = omega (arith, e.epoch) }
 
   pub array_visits : {x : IteratorScalars} {w : ℕ} {y : IteratorScalars} → x.position < h.len → ItemIs t h.mode (get_or t.cells (h.start + x.position) 0) w → Moves record { last = none; pos = x.position + 1; epoch = 0 } x.position y →
-      VisitsArray t h x record { next = y; item = Item w }
+      VisitsArray t h x record { next = y; item = Prelude.Some w }
   unfolding visit_array
   array_visits {x} {w} {y} l v m = record {
     is = λ lay source keys.
@@ -136,7 +134,7 @@ module _ (t : State) (h : Header) (y : MapScalars) (x : IteratorScalars) {m : Ma
   map-ends e g z = record { is = λ l source keys. rw (next-is, e) (z.is source keys); epoch = omega (arith, z.epoch) }
 
   module _ {p : ℕ} (e : n.found ≡ Prelude.Some p) {c' : List ℕ} {r : Prelude.Option Stored} (ec' : c' ≡ region_of h t.cells) (er : got_is r ≡ entry_answer p (store_of m c')) where
-    pub map_visits : {w : ℕ} {v : Stored} {z : IteratorScalars} → r ≡ Prelude.Some v → ItemIs t y.values v.value w → Moves (cursor_is n.cursor) v.key z → VisitsMap t h y x record { next = z; item = Item w }
+    pub map_visits : {w : ℕ} {v : Stored} {z : IteratorScalars} → r ≡ Prelude.Some v → ItemIs t y.values v.value w → Moves (cursor_is n.cursor) v.key z → VisitsMap t h y x record { next = z; item = Prelude.Some w }
     unfolding visit_map visit_entry
     map_visits {w} {v} q i z = record {
       is = λ l source keys.
@@ -183,7 +181,7 @@ other-source v i (Content.iterator a) p q = refl
 other-source v i (Content.coroutine a) p q = refl
 
 -- it stays ended
-pub visits_none : {t : State} {source : ℕ} {x : IteratorScalars} → (x.ended ≡ 0 → ⊥) → x.epoch < 4294967296 → Visits t source x record { next = x; item = End }
+pub visits_none : {t : State} {source : ℕ} {x : IteratorScalars} → (x.ended ≡ 0 → ⊥) → x.epoch < 4294967296 → Visits t source x record { next = x; item = Prelude.None }
 unfolding visit_next Rules.ended
 visits_none {x = x} z g = record { is = λ l keys. rw (eqb_no x.ended 0 z); epoch = g }
 
@@ -194,7 +192,7 @@ module _ {t : State} {source : ℕ} {f : Result ℕ Miss} (g : Good t) (d : Find
       let o = found-reached g d e in
       rw eh record { items = holds_as 6 (rw (← eh) k) (g.each j o.within); region = g.laid.inside j o.within; cells = g.laid.cells_max }
 
-  pub source-map : {y : MapScalars} → h.kind ≡ 7 → y ≡ map_part (scalars_at t.scalars j) → MapKnown t h y
+  pub source-map : {y : MapScalars} → h.kind ≡ 7 → y ≡ map_part (scalars_at t.scalars j) → MapKnown t.cells h y
   unfolding raw_at
   source-map k ey =
       let o = found-reached g d e in
@@ -249,7 +247,7 @@ module _ {t : State} {source : ℕ} {x : IteratorScalars} {f : Result ℕ Miss} 
 pub iterator-good : {r : RawSlot} {x : Scalars} → HALF ≤ r.half → r.half < HALF_END → r.kind ≡ 10 → r.size ≡ 0 → (iterator_part x).epoch < 4294967296 → SlotGood r x
 iterator-good lo hi k s u = good_as 10 k (omega arith) lo hi (s, u)
 
-module _ {t : State} {w i : ℕ} {a : Located} {h : Header} {x : IteratorScalars} (g : Good t) (d : Locates t.slots t.heap.fresh w 10 a) (e : a ≡ L.At i) (eh : h ≡ header_at t.slots i) (ex : x ≡ iterator_part (scalars_at t.scalars i))
+module _ {t : State} {w i : ℕ} {a : Result ℕ Refusal} {h : Header} {x : IteratorScalars} (g : Good t) (d : Locates t.slots t.heap.fresh w 10 a) (e : a ≡ Ok i) (eh : h ≡ header_at t.slots i) (ex : x ≡ iterator_part (scalars_at t.scalars i))
     {r : Visit} {y : Scalars} {x' : List ℕ} (v : Visits t h.value x r) (ey : y ≡ scalars_of_iterator r.next) (ew : x' ≡ set_scalars t.scalars i y) where
   step-visit : (l : Layout) → visit_next (view_of (model_of l t)) (iterator_of (raw_of t i).value (raw_of t i).mode (iterator_part (more_of t i))) ≡ visit_is (raw_of t i).value (raw_of t i).mode r
   unfolding raw_at
@@ -271,22 +269,16 @@ module _ {t : State} {w i : ℕ} {a : Located} {h : Header} {x : IteratorScalars
         room = refl;
       }
 
-  visited-is : (l : Layout) → visited (model_of l t) w ≡ visited_is r.item
+  visited-is : (l : Layout) → visited (model_of l t) w ≡ position r.item
   unfolding visited
   visited-is l =
       reads_iterator l none (λ z. (visit_next (view_of (model_of l t)) z).item) (located_at g d e) ∙ ap (λ (z : Rules.Visit). z.item) (step-visit l)
 
-  visit-does : {o : Option ℕ} → visited_is r.item ≡ o → Performs (Calls.iter_next w) t (answered (perhaps o)) (with_scalars t x')
-  unfolding terms effect uncharged
-  visit-does p l =
-      does_stored_free l g (located_at g d e).reached (step_stored l) (Calls.iter_next w) refl refl refl (object_passes l g (Calls.iter_next w) (located_at g d e) says_iterator refl) refl (ap perhaps (visited-is l ∙ p))
+  pub next-does : Performs (Calls.iter_next w) t (perhaps_is (Ok r.item)) (with_scalars t x')
+  unfolding terms effect uncharged seen_by
+  next-does l =
+      does_stored_free l g (located_at g d e).reached (step_stored l) (Calls.iter_next w) refl refl refl (object_passes l g (Calls.iter_next w) (located_at g d e) says_iterator refl) refl (ap perhaps (visited-is l))
 
-  pub next-item : {n : ℕ} → r.item ≡ Item n → Performs (Calls.iter_next w) t (answered (perhaps (some n))) (with_scalars t x')
-  next-item p = visit-does (ap visited_is p)
-
-  pub next-end : r.item ≡ End → Performs (Calls.iter_next w) t (answered (perhaps none)) (with_scalars t x')
-  next-end p = visit-does (ap visited_is p)
-
-pub next-refused : {t : State} {w : ℕ} {a : Located} {q : Refusal} → Good t → Locates t.slots t.heap.fresh w 10 a → a ≡ L.Refused q → Performs (Calls.iter_next w) t (refused q) t
-unfolding terms effect uncharged
+pub next-refused : {t : State} {w : ℕ} {a : Result ℕ Refusal} {q : Refusal} → Good t → Locates t.slots t.heap.fresh w 10 a → a ≡ Err q → Performs (Calls.iter_next w) t (perhaps_is (Err q)) t
+unfolding terms effect uncharged seen_by
 next-refused {w = w} g d e l = object-refused l g (Calls.iter_next w) {rest = []} d e says_iterator refl refl

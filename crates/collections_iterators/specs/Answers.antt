@@ -1,13 +1,18 @@
 -- What an iterator's cursor means as an answer.
-use Rattle.model.specs.Replies.{array_cursor, map_cursor}
+use Rattle.std.specs.Prelude.{Result}
+use Rattle.model.specs.Replies.{Answer, array_cursor, map_cursor, reply}
 use Rattle.map_store.specs.View.{cursor_is}
 use Rattle.history.proofs.Lift.{Seen}
-use Rattle.heap.specs.Answers.{answered, refused}
-use Rattle.collections_iterators.specs.declared.CursorRead.{CursorRead}
-use Rattle.collections_iterators.specs.declared.CursorRead.TheVariants as C
+use Rattle.heap.specs.Answers.{seen_by}
+use Rattle.heap.specs.declared.Refusal.{Refusal}
+use Rattle.collections_iterators.specs.declared.CursorAt.{CursorAt}
+use Rattle.collections_iterators.specs.declared.CursorAt.TheVariants as C
 
--- an iterator's cursor: over an array its index, over a map last or nothing yielded, position, epoch
-unfoldable pub cursor_seen : CursorRead → Seen
-cursor_seen (C.Index p) = answered (array_cursor p)
-cursor_seen (C.Map c) = answered (map_cursor (cursor_is c))
-cursor_seen (C.Refused q) = refused q
+-- over an array its index, over a map last or nothing yielded, position, epoch
+unfoldable pub cursor_answer : CursorAt → Answer
+cursor_answer (C.Index p) = reply (array_cursor p)
+cursor_answer (C.Map c) = reply (map_cursor (cursor_is c))
+
+-- an iterator's cursor
+abbrev pub cursor_seen : Result CursorAt Refusal → Seen
+cursor_seen = seen_by cursor_answer

@@ -1,6 +1,6 @@
 -- An iterator's step (document 01, "Entry, index, cursor"; "push into, pop from and iteration over dynamic items dereference").
 use Rattle.std.specs.Prelude.{ℕ, ◌+◌, ◌≤◌, ◌<◌, ◌≡◌, length, take}
-use Rattle.std.proofs.Math.Option.{Option, none, some}
+use Rattle.std.proofs.Math.Option.{some}
 use Rattle.heap_slots.specs.declared.Header.{Header}
 use Rattle.heap_slots.specs.Limits.{CELLS_MAX}
 use Rattle.heap_slots.specs.Scalars.{scalars_of_iterator}
@@ -9,8 +9,7 @@ use Rattle.heap_slots.specs.declared.MapScalars.{MapScalars}
 use Rattle.heap_cells.specs.Regions.{region_of}
 use Rattle.layout.specs.Layout.{Layout}
 use Rattle.map_store.specs.Store as Maps
-use Rattle.map_store.specs.Map as Map
-use Rattle.map_store.specs.View.{store_of}
+use Rattle.map_store.specs.View.{position, store_of}
 use Rattle.model.specs.Content as Content
 use Rattle.model.specs.Model.{view_of}
 use Rattle.model.specs.Rules.{visit_array, visit_map, visit_next}
@@ -18,21 +17,15 @@ use Rattle.model.specs.Rules as Rules
 use Rattle.heap.specs.Kinds.{cursor_of, perhaps, yes}
 use Rattle.heap.specs.State.{State, model_of}
 use Rattle.collections_iterators.specs.declared.Visit.{Visit}
-use Rattle.collections_iterators.specs.declared.Visited.{Visited}
-use Rattle.collections_iterators.specs.declared.Visited.TheVariants.{End, Item}
 use Rattle.collections_growth.specs.Words.{map_from}
 
 -- the iterator with these scalars
 abbrev pub iterator_of : ℕ → ℕ → IteratorScalars → Content.Iterator
 iterator_of source keys x = record { source = source; key_type = keys; ended = yes x.ended; key = perhaps x.keyed x.key; cursor = cursor_of (scalars_of_iterator x) }
 
-abbrev pub visited_is : Visited → Option ℕ
-visited_is (Item w) = some w
-visited_is End = none
-
 -- the item or the end, and the iterator afterwards
 abbrev pub visit_is : ℕ → ℕ → Visit → Rules.Visit
-visit_is source keys r = record { item = visited_is r.item; next = iterator_of source keys r.next }
+visit_is source keys r = record { item = position r.item; next = iterator_of source keys r.next }
 
 -- the array and the map in a slot
 abbrev pub array_in : State → Header → Content.Array
@@ -62,13 +55,8 @@ pub record Visits (t : State) (source : ℕ) (x : IteratorScalars) (r : Visit) :
   pub is : (l : Layout) (keys : ℕ) → visit_next (view_of (model_of l t)) (iterator_of source keys x) ≡ visit_is source keys r
   pub epoch : r.next.epoch < 4294967296
 
--- what the header of an array, and the header and the scalars of a map, are known to be
+-- what the header of an array is known to be
 pub record ArrayKnown (t : State) (h : Header) : Type 0 where
   pub items : h.len ≤ h.size
   pub region : h.start + h.size ≤ length t.cells
   pub cells : length t.cells ≤ CELLS_MAX
-
-pub record MapKnown (t : State) (h : Header) (y : MapScalars) : Type 0 where
-  pub good : Map.Good (map_from h y) (region_of h t.cells)
-  pub region : h.start + h.size ≤ length t.cells
-  pub epoch : y.epoch < 4294967296

@@ -1,7 +1,7 @@
 // Iterators over arrays and maps.
 #![tactic(auto)]
 
-ghost use Rattle.std.specs.Prelude.{◌≡◌, ◌+◌, ◌<◌};
+ghost use Rattle.std.specs.Prelude.{◌≡◌, ◌<◌};
 ghost use Rattle.heap_slots.specs.Scalars.{scalars_of_iterator};
 ghost use Rattle.map_store.specs.View.{cursor_is};
 ghost use Rattle.model.specs.Calls as Calls;
@@ -10,37 +10,32 @@ ghost use Rattle.heap.specs.Kinds.{cursor_of};
 ghost use Rattle.heap.specs.State.{state};
 ghost use Rattle.heap.specs.Good.{Good};
 ghost use Rattle.heap.specs.Promise.{Performs, Reads};
+ghost use Rattle.heap.specs.View.{held};
 ghost use Rattle.collections_growth.specs.Answers.{perhaps_is};
+ghost use Rattle.collections_growth.specs.Words.{MapKnown};
 ghost use Rattle.collections_iterators.specs.Answers.{cursor_seen};
 ghost use Rattle.collections_iterators.specs.Beginning.{Begins};
-ghost use Rattle.collections_iterators.specs.Visits.{ArrayKnown, MapKnown, Ends, Moves, VisitsArray, VisitsMap, Visits};
+ghost use Rattle.collections_iterators.specs.Visits.{ArrayKnown, Ends, Moves, VisitsArray, VisitsMap, Visits};
 
-use collections_growth::{Perhaps, item, map_of, region};
-use heap::{Heap, Located, Made, Reading, Refusal, Test, lookup};
+use collections_growth::{item, map_in};
+use heap::{Heap, HeapView, Refusal, lookup};
 use heap_allocation::making;
-use heap_slots::{Header, IteratorScalars, MapScalars, Miss, Scalars, kinds};
-use map_store::{Cursor, Map};
+use heap_slots::{Header, IteratorScalars, MapScalars, Scalars, kinds};
+use map_store::Cursor;
 
 // An iterator's cursor: over an array its index alone.
-#[derive(Clone, Copy)]
-pub enum CursorRead {
+#[derive(Clone, Copy, Debug, PartialEq, Eq)]
+pub enum CursorAt {
     Index(u64),
     Map(Cursor),
-    Refused(Refusal),
 }
 
-// The item that an iterator's step visits, or its end.
-#[derive(Clone, Copy)]
-enum Visited {
-    Item(u64),
-    End,
-}
-
-// An iterator's step: the scalars afterwards, and the item.
+// An iterator's step: the scalars afterwards, and the item that it visits, if it has not come to the
+// end.
 #[derive(Clone, Copy)]
 struct Visit {
     next: IteratorScalars,
-    item: Visited,
+    item: Option<u64>,
 }
 
 // The cursor of an iterator with these scalars.
@@ -48,19 +43,10 @@ fn cursor_of(x: IteratorScalars) -> Cursor
     requires { x.epoch < 4294967296 }
     ensures { cursor_is result ≡ cursor_of (scalars_of_iterator x) }
 {
-    let pos = x.position as usize;
-    let epoch = x.epoch as u32;
-    if x.stepped == 0 {
-        return Cursor {
-            last: None,
-            pos,
-            epoch,
-        };
-    }
     Cursor {
-        last: Some(x.last),
-        pos,
-        epoch,
+        last: if x.stepped == 0 { None } else { Some(x.last) },
+        pos: x.position as usize,
+        epoch: x.epoch as u32,
     }
 }
 
@@ -68,11 +54,9 @@ fn cursor_of(x: IteratorScalars) -> Cursor
 fn ended(x: IteratorScalars) -> Visit
     ensures { Ends x result }
 {
-    let mut y = x;
-    y.ended = 1;
     Visit {
-        next: y,
-        item: Visited::End,
+        next: IteratorScalars { ended: 1, ..x },
+        item: None,
     }
 }
 
@@ -80,54 +64,27 @@ fn ended(x: IteratorScalars) -> Visit
 fn moved_to(c: Cursor, key: u64) -> IteratorScalars
     ensures { Moves (cursor_is c) key result }
 {
-    let position = c.pos as u64;
-    let epoch = c.epoch as u64;
-    let last = c.last;
-    match last {
-        None => IteratorScalars {
-            ended: 0,
-            keyed: 1,
-            key,
-            stepped: 0,
-            last: 0,
-            position,
-            epoch,
-        },
-        Some(q) => IteratorScalars {
-            ended: 0,
-            keyed: 1,
-            key,
-            stepped: 1,
-            last: q,
-            position,
-            epoch,
-        },
+    IteratorScalars {
+        ended: 0,
+        keyed: 1,
+        key,
+        stepped: u64::from(c.last.is_some()),
+        last: c.last.unwrap_or(0),
+        position: c.pos as u64,
+        epoch: u64::from(c.epoch),
     }
 }
 
 // The step of an iterator over the array with this header.
-fn visit_array(
-    heap: Heap,
-    slots: &[u64],
-    scalars: &[u64],
-    list: &[u64],
-    directory: &[u64],
-    cells: &[u64],
-    h: Header,
-    x: IteratorScalars,
-) -> Visit
-    requires good { Good (state heap slots.now scalars.now list.now directory.now cells.now) }
-    requires array { ArrayKnown (state heap slots.now scalars.now list.now directory.now cells.now) h }
+fn visit_array(view: &HeapView<'_>, h: Header, x: IteratorScalars) -> Visit
+    requires array { ArrayKnown (held view.now) h }
     requires epoch { x.epoch < 4294967296 }
-    ensures { VisitsArray (state heap slots.now scalars.now list.now directory.now cells.now) h x result }
+    ensures { VisitsArray (held view.now) h x result }
 {
     if h.len <= x.position {
         return ended(x);
     }
-    let at = (h.start + x.position) as usize;
-    let w = item(
-        heap, slots, scalars, list, directory, cells, h.mode, cells[at],
-    );
+    let w = item(view, h.mode, view.cells[(h.start + x.position) as usize]);
     let c = Cursor {
         last: None,
         pos: (x.position + 1) as usize,
@@ -135,238 +92,135 @@ fn visit_array(
     };
     Visit {
         next: moved_to(c, x.position),
-        item: Visited::Item(w),
+        item: Some(w),
     }
 }
 
 // The step of an iterator over the map with this header and these scalars.
-fn visit_map(
-    heap: Heap,
-    slots: &[u64],
-    scalars: &[u64],
-    list: &[u64],
-    directory: &[u64],
-    cells: &[u64],
-    h: Header,
-    y: MapScalars,
-    x: IteratorScalars,
-) -> Visit
-    requires good { Good (state heap slots.now scalars.now list.now directory.now cells.now) }
-    requires map { MapKnown (state heap slots.now scalars.now list.now directory.now cells.now) h y }
+fn visit_map(view: &HeapView<'_>, h: Header, y: MapScalars, x: IteratorScalars) -> Visit
+    requires map { MapKnown view.now.cells.now h y }
     requires epoch { x.epoch < 4294967296 }
-    ensures { VisitsMap (state heap slots.now scalars.now list.now directory.now cells.now) h y x result }
+    ensures { VisitsMap (held view.now) h y x result }
 {
-    let map = Map {
-        store: map_of(h, y),
-        cells: region(cells, h),
-    };
+    let map = map_in(view.cells, h, y);
     let s = map.step(cursor_of(x));
-    let found = s.found;
-    match found {
-        None => ended(x),
-        Some(p) => match map.entry(p) {
-            None => ended(x),
-            Some(e) => {
-                let w = item(
-                    heap, slots, scalars, list, directory, cells, y.values, e.value,
-                );
-                let c = s.cursor;
-                Visit {
-                    next: moved_to(c, e.key),
-                    item: Visited::Item(w),
-                }
-            }
-        },
+    let Some(p) = s.found else {
+        return ended(x);
+    };
+    let Some(e) = map.entry(p) else {
+        return ended(x);
+    };
+    Visit {
+        next: moved_to(s.cursor, e.key),
+        item: Some(item(view, y.values, e.value)),
     }
 }
 
 // The step of an iterator with this source and these scalars: once ended, it stays so.
-fn advance(
-    heap: Heap,
-    slots: &[u64],
-    scalars: &[u64],
-    list: &[u64],
-    directory: &[u64],
-    cells: &[u64],
-    source: u64,
-    x: IteratorScalars,
-) -> Visit
-    requires good { Good (state heap slots.now scalars.now list.now directory.now cells.now) }
+fn advance(view: &HeapView<'_>, source: u64, x: IteratorScalars) -> Visit
     requires epoch { x.epoch < 4294967296 }
-    ensures { Visits (state heap slots.now scalars.now list.now directory.now cells.now) source x result }
+    ensures { Visits (held view.now) source x result }
 {
     if x.ended != 0 {
         return Visit {
             next: x,
-            item: Visited::End,
+            item: None,
         };
     }
-    match heap_slots::find(slots, heap.fresh, source) {
-        Err(_) => ended(x),
-        Ok(j) => {
-            let h = heap_slots::read_header(slots, j);
-            if h.kind == kinds::ARRAY {
-                return visit_array(heap, slots, scalars, list, directory, cells, h, x);
-            }
-            if h.kind == kinds::MAP {
-                let y: MapScalars = heap_slots::read_part(scalars, j);
-                return visit_map(heap, slots, scalars, list, directory, cells, h, y, x);
-            }
-            ended(x)
-        }
+    let Ok(j) = heap_slots::find(view.slots, view.heap.fresh, source) else {
+        return ended(x);
+    };
+    let h = heap_slots::read_header(view.slots, j);
+    match h.kind {
+        kinds::ARRAY => visit_array(view, h, x),
+        kinds::MAP => visit_map(view, h, heap_slots::read_part(view.scalars, j), x),
+        _ => ended(x),
     }
 }
 
 // The word of the array or map that an iterator goes over.
-pub fn iter_source(
-    heap: Heap,
-    slots: &[u64],
-    scalars: &[u64],
-    list: &[u64],
-    directory: &[u64],
-    cells: &[u64],
-    w: u64,
-) -> Reading
-    requires { Good (state heap slots.now scalars.now list.now directory.now cells.now) }
-    ensures { Reads (Calls.iter_source w) (state heap slots.now scalars.now list.now directory.now cells.now) (reading_is result) }
+pub fn iter_source(view: &HeapView<'_>, w: u64) -> Result<u64, Refusal>
+    ensures { Reads (Calls.iter_source w) (held view.now) (reading_is result) }
 {
-    match lookup::locate(slots, heap.fresh, w, kinds::ITERATOR) {
-        Located::Refused(q) => Reading::Refused(q),
-        Located::At(i) => {
-            let h = heap_slots::read_header(slots, i);
-            Reading::Is(h.value)
-        }
-    }
+    let i = lookup::locate(view.slots, view.heap.fresh, w, kinds::ITERATOR)?;
+    Ok(heap_slots::read_header(view.slots, i).value)
 }
 
 // The type of an iterator's keys.
-pub fn iter_key_type(
-    heap: Heap,
-    slots: &[u64],
-    scalars: &[u64],
-    list: &[u64],
-    directory: &[u64],
-    cells: &[u64],
-    w: u64,
-) -> Reading
-    requires { Good (state heap slots.now scalars.now list.now directory.now cells.now) }
-    ensures { Reads (Calls.iter_key_type w) (state heap slots.now scalars.now list.now directory.now cells.now) (reading_is result) }
+pub fn iter_key_type(view: &HeapView<'_>, w: u64) -> Result<u64, Refusal>
+    ensures { Reads (Calls.iter_key_type w) (held view.now) (reading_is result) }
 {
-    match lookup::locate(slots, heap.fresh, w, kinds::ITERATOR) {
-        Located::Refused(q) => Reading::Refused(q),
-        Located::At(i) => {
-            let h = heap_slots::read_header(slots, i);
-            Reading::Is(h.mode)
-        }
-    }
+    let i = lookup::locate(view.slots, view.heap.fresh, w, kinds::ITERATOR)?;
+    Ok(heap_slots::read_header(view.slots, i).mode)
 }
 
 // Whether an iterator has ended.
-pub fn iter_ended(
-    heap: Heap,
-    slots: &[u64],
-    scalars: &[u64],
-    list: &[u64],
-    directory: &[u64],
-    cells: &[u64],
-    w: u64,
-) -> Test
-    requires { Good (state heap slots.now scalars.now list.now directory.now cells.now) }
-    ensures { Reads (Calls.iter_ended w) (state heap slots.now scalars.now list.now directory.now cells.now) (test_is result) }
+pub fn iter_ended(view: &HeapView<'_>, w: u64) -> Result<bool, Refusal>
+    ensures { Reads (Calls.iter_ended w) (held view.now) (test_is result) }
 {
-    match lookup::locate(slots, heap.fresh, w, kinds::ITERATOR) {
-        Located::Refused(q) => Test::Refused(q),
-        Located::At(i) => {
-            let x: IteratorScalars = heap_slots::read_part(scalars, i);
-            Test::Is(x.ended != 0)
-        }
-    }
+    let i = lookup::locate(view.slots, view.heap.fresh, w, kinds::ITERATOR)?;
+    let x: IteratorScalars = heap_slots::read_part(view.scalars, i);
+    Ok(x.ended != 0)
 }
 
 // The key of the item visited last.
-pub fn iter_key(
-    heap: Heap,
-    slots: &[u64],
-    scalars: &[u64],
-    list: &[u64],
-    directory: &[u64],
-    cells: &[u64],
-    w: u64,
-) -> Perhaps
-    requires { Good (state heap slots.now scalars.now list.now directory.now cells.now) }
-    ensures { Reads (Calls.iter_key w) (state heap slots.now scalars.now list.now directory.now cells.now) (perhaps_is result) }
+pub fn iter_key(view: &HeapView<'_>, w: u64) -> Result<Option<u64>, Refusal>
+    ensures { Reads (Calls.iter_key w) (held view.now) (perhaps_is result) }
 {
-    match lookup::locate(slots, heap.fresh, w, kinds::ITERATOR) {
-        Located::Refused(q) => Perhaps::Refused(q),
-        Located::At(i) => {
-            let x: IteratorScalars = heap_slots::read_part(scalars, i);
-            if x.keyed == 0 {
-                return Perhaps::Absent;
-            }
-            Perhaps::Is(x.key)
-        }
+    let i = lookup::locate(view.slots, view.heap.fresh, w, kinds::ITERATOR)?;
+    let x: IteratorScalars = heap_slots::read_part(view.scalars, i);
+    if x.keyed == 0 {
+        Ok(None)
+    } else {
+        Ok(Some(x.key))
     }
 }
 
 // An iterator's cursor.
-pub fn iter_cursor(
-    heap: Heap,
-    slots: &[u64],
-    scalars: &[u64],
-    list: &[u64],
-    directory: &[u64],
-    cells: &[u64],
-    w: u64,
-) -> CursorRead
-    requires { Good (state heap slots.now scalars.now list.now directory.now cells.now) }
-    ensures { Reads (Calls.iter_cursor w) (state heap slots.now scalars.now list.now directory.now cells.now) (cursor_seen result) }
+pub fn iter_cursor(view: &HeapView<'_>, w: u64) -> Result<CursorAt, Refusal>
+    ensures { Reads (Calls.iter_cursor w) (held view.now) (cursor_seen result) }
 {
-    match lookup::locate(slots, heap.fresh, w, kinds::ITERATOR) {
-        Located::Refused(q) => CursorRead::Refused(q),
-        Located::At(i) => {
-            let h = heap_slots::read_header(slots, i);
-            let x: IteratorScalars = heap_slots::read_part(scalars, i);
-            if lookup::row_at(slots, heap.fresh, h.value) == kinds::ARRAY {
-                return CursorRead::Index(x.position);
-            }
-            CursorRead::Map(cursor_of(x))
-        }
+    let i = lookup::locate(view.slots, view.heap.fresh, w, kinds::ITERATOR)?;
+    let x: IteratorScalars = heap_slots::read_part(view.scalars, i);
+    let source = heap_slots::read_header(view.slots, i).value;
+    if lookup::row_at(view.slots, view.heap.fresh, source) == kinds::ARRAY {
+        Ok(CursorAt::Index(x.position))
+    } else {
+        Ok(CursorAt::Map(cursor_of(x)))
     }
 }
 
 // The next item of an iterator, or its end.
 pub fn iter_next(
-    heap: Heap,
+    heap: &Heap,
     slots: &[u64],
     scalars: &mut [u64],
     list: &[u64],
     directory: &[u64],
     cells: &[u64],
     w: u64,
-) -> Perhaps
-    requires { Good (state heap slots.now scalars.old list.now directory.now cells.now) }
-    ensures { Performs (Calls.iter_next w) (state heap slots.now scalars.old list.now directory.now cells.now) (perhaps_is result) (state heap slots.now scalars.new list.now directory.now cells.now) }
+) -> Result<Option<u64>, Refusal>
+    requires { Good (state heap.now slots.now scalars.old list.now directory.now cells.now) }
+    ensures { Performs (Calls.iter_next w) (state heap.now slots.now scalars.old list.now directory.now cells.now) (perhaps_is result) (state heap.now slots.now scalars.new list.now directory.now cells.now) }
 {
-    match lookup::locate(slots, heap.fresh, w, kinds::ITERATOR) {
-        Located::Refused(q) => Perhaps::Refused(q),
-        Located::At(i) => {
-            let h = heap_slots::read_header(slots, i);
-            let x: IteratorScalars = heap_slots::read_part(scalars, i);
-            let v = advance(heap, slots, scalars, list, directory, cells, h.value, x);
-            let next = v.next;
-            heap_slots::write_scalars(scalars, i, Scalars::from(next));
-            let item = v.item;
-            match item {
-                Visited::End => Perhaps::Absent,
-                Visited::Item(n) => Perhaps::Is(n),
-            }
-        }
-    }
+    let i = lookup::locate(slots, heap.fresh, w, kinds::ITERATOR)?;
+    let view = HeapView {
+        heap: *heap,
+        slots,
+        scalars,
+        list,
+        directory,
+        cells,
+    };
+    let x: IteratorScalars = heap_slots::read_part(scalars, i);
+    let v = advance(&view, heap_slots::read_header(slots, i).value, x);
+    heap_slots::write_scalars(scalars, i, Scalars::from(v.next));
+    Ok(v.item)
 }
 
 // An iterator before its first item: source, and the type of its keys.
 fn begin_iter(
-    heap: Heap,
+    heap: &mut Heap,
     slots: &mut [u64],
     scalars: &mut [u64],
     list: &[u64],
@@ -374,11 +228,11 @@ fn begin_iter(
     cells: &[u64],
     source: u64,
     keys: u64,
-) -> Made
-    requires { Good (state heap slots.old scalars.old list.now directory.now cells.now) }
-    ensures { Begins (state heap slots.old scalars.old list.now directory.now cells.now) source keys result.answer (state result.heap slots.new scalars.new list.now directory.now cells.now) }
+) -> Result<u64, Refusal>
+    requires { Good (state heap.old slots.old scalars.old list.now directory.now cells.now) }
+    ensures { Begins (state heap.old slots.old scalars.old list.now directory.now cells.now) source keys result (state heap.new slots.new scalars.new list.now directory.now cells.now) }
 {
-    let weights = heap.weights;
+    let bytes = heap.weights.slot + heap.weights.iterator;
     let h = Header {
         kind: kinds::ITERATOR,
         value: source,
@@ -394,58 +248,29 @@ fn begin_iter(
         position: 0,
         epoch: 0,
     });
-    making::new_with_scalars(
-        heap,
-        slots,
-        scalars,
-        list,
-        directory,
-        cells,
-        h,
-        x,
-        weights.slot + weights.iterator,
-    )
+    making::new_with_scalars(heap, slots, scalars, list, directory, cells, h, x, bytes)
 }
 
 // An iterator over an array or a map.
 pub fn new_iter(
-    heap: Heap,
+    heap: &mut Heap,
     slots: &mut [u64],
     scalars: &mut [u64],
     list: &[u64],
     directory: &[u64],
     cells: &[u64],
     source: u64,
-) -> Made
-    requires { Good (state heap slots.old scalars.old list.now directory.now cells.now) }
-    ensures { Performs (Calls.new_iter source) (state heap slots.old scalars.old list.now directory.now cells.now) (made_is result.answer) (state result.heap slots.new scalars.new list.now directory.now cells.now) }
+) -> Result<u64, Refusal>
+    requires { Good (state heap.old slots.old scalars.old list.now directory.now cells.now) }
+    ensures { Performs (Calls.new_iter source) (state heap.old slots.old scalars.old list.now directory.now cells.now) (made_is result) (state heap.new slots.new scalars.new list.now directory.now cells.now) }
 {
-    match heap_slots::find(slots, heap.fresh, source) {
-        Err(Miss::Nil) => Made {
-            heap,
-            answer: Reading::Refused(Refusal::NilTarget),
-        },
-        Err(Miss::Dead) => Made {
-            heap,
-            answer: Reading::Refused(Refusal::DeadReference),
-        },
-        Err(Miss::Wrong) => Made {
-            heap,
-            answer: Reading::Refused(Refusal::OtherKind),
-        },
-        Ok(j) => {
-            let h = heap_slots::read_header(slots, j);
-            if h.kind == kinds::ARRAY {
-                return begin_iter(heap, slots, scalars, list, directory, cells, source, 0);
-            }
-            if h.kind == kinds::MAP {
-                let x: MapScalars = heap_slots::read_part(scalars, j);
-                return begin_iter(heap, slots, scalars, list, directory, cells, source, x.keys);
-            }
-            Made {
-                heap,
-                answer: Reading::Refused(Refusal::OtherKind),
-            }
+    let j = heap_slots::find(slots, heap.fresh, source)?;
+    match heap_slots::read_header(slots, j).kind {
+        kinds::ARRAY => begin_iter(heap, slots, scalars, list, directory, cells, source, 0),
+        kinds::MAP => {
+            let x: MapScalars = heap_slots::read_part(scalars, j);
+            begin_iter(heap, slots, scalars, list, directory, cells, source, x.keys)
         }
+        _ => Err(Refusal::OtherKind),
     }
 }

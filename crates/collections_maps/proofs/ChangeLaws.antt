@@ -9,7 +9,6 @@ use lib.ListN.{get_or, length, take}
 use lib.Seq.{get_or-take}
 use borrow.Rule.Slice.PartMut.{mid_of, put_mid}
 use Rattle.account.specs.declared.Account.{Account}
-use Rattle.account.specs.Account.{fits}
 use Rattle.heap_slots.specs.Header.{header_at}
 use Rattle.heap_slots.specs.Limits.{SLOT_WORDS, SLOTS_MAX}
 use Rattle.heap_slots.specs.declared.Header.{Header}
@@ -26,7 +25,6 @@ use Rattle.model.specs.Content.{Content, map_object}
 use Rattle.heap.specs.declared.Heap.{Heap}
 use Rattle.heap.specs.Kinds.{content_of, room_of}
 use Rattle.heap.specs.State.{State, more_of, raw_of, with_regions}
-use Rattle.heap.specs.Good.{Good}
 use Rattle.heap.proofs.StoreLaws.{Stored}
 use Rattle.collections_maps.specs.Changes.{InRegion, Inserting, Removing, room_after, room_without}
 use Rattle.collections_growth.specs.Growth.{Lengthened, Lengthening}

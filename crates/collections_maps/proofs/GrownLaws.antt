@@ -1,6 +1,6 @@
 -- Maps whose region becomes longer before they change. Assumes nothing.
 use Prim.Native.Nat.{ℕ, ◌+◌, ◌*◌, ◌-◌, ◌≤◌, ◌<◌}
-use mathlib.Core.Path.{◌≡◌, refl}
+use mathlib.Core.Path.{◌≡◌, refl, ap, subst}
 use mathlib.Core.Bool.{Bool, true, false}
 use mathlib.Core.List.{List}
 use native.Mathlib.Omega.{arith}
@@ -8,7 +8,7 @@ use lib.ListN.{length}
 use Rattle.account.specs.declared.Account.{Account}
 use Rattle.account.specs.Account.{charged, fits}
 use Rattle.heap_slots.specs.Header.{header_at, scalars_at}
-use Rattle.heap_slots.specs.Limits.{CELLS_MAX, SLOT_WORDS, SLOTS_MAX}
+use Rattle.heap_slots.specs.Limits.{SLOT_WORDS, SLOTS_MAX}
 use Rattle.heap_slots.specs.declared.Header.{Header}
 use Rattle.heap_slots.specs.declared.Scalars.{Scalars}
 use Rattle.heap_cells.specs.Regions.{Grown, region_of}
@@ -21,14 +21,14 @@ use Rattle.model.specs.Replies.{nothing}
 use Rattle.heap.specs.declared.Heap.{Heap}
 use Rattle.heap.specs.declared.Refusal.TheVariants as No
 use Rattle.heap.specs.Answers.{answered, refused}
-use Rattle.heap.specs.State.{State, state, with_regions}
+use Rattle.heap.specs.State.{State, state, with_moved, with_regions}
 use Rattle.heap.specs.Good.{Good}
-use Rattle.collections_growth.specs.Growth.{Lengthened, Lengthening}
-use Rattle.collections_growth.proofs.GrowthLaws.{taken-fits}
+use Rattle.collections_growth.specs.Growth.{Lengthened, Lengthening, Longer}
+use Rattle.collections_growth.proofs.GrowthLaws.{longer-made}
 use Rattle.collections_maps.specs.Changes.{InRegion, InsertAsks, Inserting, Inserts, IsMap, Ready, RemoveAsks, Removes, Removing, Rewritten, cells_at, map_at, room_after, room_without}
 use Rattle.collections_maps.specs.Written.{MapWritten}
-use Rattle.collections_maps.specs.declared.Insertion.{Insertion}
-use Rattle.collections_maps.specs.declared.Removal.{Removal}
+use Rattle.collections_maps.specs.declared.changes.Insertion.{Insertion}
+use Rattle.collections_maps.specs.declared.changes.Removal.{Removal}
 use Rattle.collections_maps.proofs.ChangeLaws.{insert_asks, insert-more, long-fits, long-store, remove_asks, remove-more}
 use Rattle.collections_maps.proofs.InsertLaws.{inserts_done, inserts_full, inserts_over, inserts_spent}
 use Rattle.collections_maps.proofs.MapLaws.{MapSlot, map-good, map-size}
@@ -96,29 +96,35 @@ module _ {t : State} {i size : ℕ} {s : MapStore} (g : Good t) (o : Ready t i s
   grown_removing e = remove_asks (slot_at g o.slot o.map) o.long (grown_now g o u) e o.size_is
 
 -- what was done to the map, its region being longer
-pub inserted_so : (b : Bool) (hash key value : ℕ) {t : State} {i size : ℕ} {s : MapStore} {q : Top} {s' dir' c' : List ℕ} {h : Header} {n : MapStore} {s'' x'' c'' : List ℕ} → Good t → Ready t i s (room_after b key s (cells_at t i)) size →
-    Grown t.heap.fresh i size q t.slots t.directory t.cells s' dir' c' → h ≡ header_at s' i → InRegion (Maps.inserted b hash key value) (room_after b key s (region_of h c')) h s c' n c'' → MapWritten s' t.scalars s'' x'' i n →
-    Rewritten t i size s (Maps.inserted b hash key value) (room_after b key s (cells_at t i)) q (state t.heap s'' x'' t.list dir' c'')
+pub inserted_so : (b : Bool) (hash key value : ℕ) {t : State} {i size : ℕ} {s : MapStore} {m : Heap} {s' dir' c' : List ℕ} {h : Header} {n : MapStore} {s'' x'' c'' : List ℕ} → Good t → Ready t i s (room_after b key s (cells_at t i)) size →
+    Longer t i size (with_moved t m s' dir' c') → h ≡ header_at s' i → InRegion (Maps.inserted b hash key value) (room_after b key s (region_of h c')) h s c' n c'' → MapWritten s' t.scalars s'' x'' i n →
+    Rewritten t i size s (Maps.inserted b hash key value) (room_after b key s (cells_at t i)) (state m s'' x'' t.list dir' c'')
 inserted_so b hash key value {i = i} {s = s} {s' = s'} {c' = c'} {n = n} {c'' = c''} g o u e v w =
     let v₁ : InRegion (Maps.inserted b hash key value) (room_after b key s (region_of (header_at s' i) c')) (header_at s' i) s c' n c'' = rw e at v in
-    record { slots = s'; cells = c'; map = n; grown = u; applied = rw (grown-store g o u) at v₁; written = w }
+    record { slots = s'; cells = c'; map = n; longer = u; applied = rw (grown-store g o u.grown) at v₁; written = w }
 
-pub removed_so : (pos : ℕ) {t : State} {i size : ℕ} {s : MapStore} {q : Top} {s' dir' c' : List ℕ} {h : Header} {n : MapStore} {s'' x'' c'' : List ℕ} → Good t → Ready t i s (room_without s (cells_at t i)) size →
-    Grown t.heap.fresh i size q t.slots t.directory t.cells s' dir' c' → h ≡ header_at s' i → InRegion (Maps.removed_at pos) (room_without s (region_of h c')) h s c' n c'' → MapWritten s' t.scalars s'' x'' i n →
-    Rewritten t i size s (Maps.removed_at pos) (room_without s (cells_at t i)) q (state t.heap s'' x'' t.list dir' c'')
+pub removed_so : (pos : ℕ) {t : State} {i size : ℕ} {s : MapStore} {m : Heap} {s' dir' c' : List ℕ} {h : Header} {n : MapStore} {s'' x'' c'' : List ℕ} → Good t → Ready t i s (room_without s (cells_at t i)) size →
+    Longer t i size (with_moved t m s' dir' c') → h ≡ header_at s' i → InRegion (Maps.removed_at pos) (room_without s (region_of h c')) h s c' n c'' → MapWritten s' t.scalars s'' x'' i n →
+    Rewritten t i size s (Maps.removed_at pos) (room_without s (cells_at t i)) (state m s'' x'' t.list dir' c'')
 removed_so pos {i = i} {s = s} {s' = s'} {c' = c'} {n = n} {c'' = c''} g o u e v w =
     let v₁ : InRegion (Maps.removed_at pos) (room_without s (region_of (header_at s' i) c')) (header_at s' i) s c' n c'' = rw e at v in
-    record { slots = s'; cells = c'; map = n; grown = u; applied = rw (grown-store g o u) at v₁; written = w }
+    record { slots = s'; cells = c'; map = n; longer = u; applied = rw (grown-store g o u.grown) at v₁; written = w }
 
 -- ---- what insert_at shows
 
--- the record with what a change that took `more` cells made of it
-abbrev grown_by : State → Account → Top → ℕ → Heap
-grown_by t a q more = with_regions t.heap a q.cells q.entries (t.heap.taken + more)
+-- the record with another account, and `more` cells taken
+abbrev grown_by : Heap → Account → ℕ → Heap
+grown_by h a more = with_regions h a h.top h.entries (h.taken + more)
 
-module _ {t : State} {i size more : ℕ} {s : MapStore} {rule : Maps.Store → Maps.Store} {room : Maps.Room} {q : Top} {a : State} where
-  rewritten-long : (b : Account) → more ≡ size - (header_at t.slots i).size → (w : Rewritten t i size s rule room q a) → Lengthened t i size b (grown_by t b q more) w.slots a.directory w.cells
-  rewritten-long b e w = record { heap = rw e; grown = w.grown }
+module _ {t : State} {i size more : ℕ} {s : MapStore} {rule : Maps.Store → Maps.Store} {room : Maps.Room} {a : State} (g : Good t) (y : Lengthening t i size) (e : more ≡ size - (header_at t.slots i).size) (w : Rewritten t i size s rule room a) where
+  rewritten-long : (b : Account) → Lengthened t i size b (grown_by a.heap b more) w.slots a.directory w.cells
+  rewritten-long b = rw e (longer-made g y refl w.longer)
+
+  -- nothing is charged
+  rewritten-free : Lengthened t i size t.heap.account (grown_by a.heap a.heap.account more) w.slots a.directory w.cells
+  rewritten-free =
+      let same : a.heap.account ≡ t.heap.account = ap (λ (z : Heap). z.account) w.longer.heap in
+      subst (λ (z : Account). Lengthened t i size z (grown_by a.heap a.heap.account more) w.slots a.directory w.cells) same (rewritten-long a.heap.account)
 
 module _ {t : State} {i key : ℕ} {r : Insertion} (g : Good t) (o : IsMap t i) (k : InsertAsks t i key r) where
   insertion_slot : MapSlot t i (header_at t.slots i) (scalars_at t.scalars i) r.map (cells_at t i)
@@ -137,13 +143,12 @@ module _ {t : State} {i key : ℕ} {r : Insertion} (g : Good t) (o : IsMap t i) 
     pub insertion_full : fits t.heap.account r.bytes ≡ true → length t.cells - t.heap.taken < r.more → Inserts t i hash key value (refused No.NoCells) t
     insertion_full z l = inserts_full insertion_slot f k.traced k.bytes z k.size (rw k.more at l)
 
-    pub insertion_done : {b : Account} {q : Top} {a : State} → r.more ≤ length t.cells - t.heap.taken → Rewritten t i r.size r.map (Maps.inserted r.traced hash key value) (room_after r.traced key r.map (cells_at t i)) q a →
-        (fits t.heap.account r.bytes ≡ true) × (b ≡ charged t.heap.account r.bytes) → Inserts t i hash key value (answered nothing) (state (grown_by t b q r.more) a.slots a.scalars t.list a.directory a.cells)
+    pub insertion_done : {b : Account} {a : State} → r.more ≤ length t.cells - t.heap.taken → Rewritten t i r.size r.map (Maps.inserted r.traced hash key value) (room_after r.traced key r.map (cells_at t i)) a →
+        (fits t.heap.account r.bytes ≡ true) × (b ≡ charged t.heap.account r.bytes) → Inserts t i hash key value (answered nothing) (state (grown_by a.heap b r.more) a.slots a.scalars t.list a.directory a.cells)
     insertion_done {b} l w p =
         let y = lengthens g o k.grows k.more l in
-        let u = rewritten-long b k.more w in
-        let v = rw (← grown-store g (insertion_ready l) w.grown) at w.applied in
-        inserts_done insertion_slot f k.traced k.bytes y u refl v w.written k.size p
+        let v = rw (← grown-store g (insertion_ready l) w.longer.grown) at w.applied in
+        inserts_done insertion_slot f k.traced k.bytes y (rewritten-long g y k.more w b) refl v w.written k.size p
 
 -- ---- what remove_place shows
 
@@ -155,18 +160,14 @@ module _ {t : State} {i : ℕ} {r : Removal} (g : Good t) (o : IsMap t i) (k : R
   removal_full l = removes-full removal_slot k.size (rw k.more at l)
 
   module _ (l : r.more ≤ length t.cells - t.heap.taken) where
-    pub removal_done : {pos : ℕ} {q : Top} {a : State} → Rewritten t i r.size r.map (Maps.removed_at pos) (room_without r.map (cells_at t i)) q a →
-        Removes t i pos (answered nothing) (state (grown_by t t.heap.account q r.more) a.slots a.scalars t.list a.directory a.cells)
+    pub removal_done : {pos : ℕ} {a : State} → Rewritten t i r.size r.map (Maps.removed_at pos) (room_without r.map (cells_at t i)) a →
+        Removes t i pos (answered nothing) (state (grown_by a.heap a.heap.account r.more) a.slots a.scalars t.list a.directory a.cells)
     removal_done w =
         let y = lengthens g o k.grows k.more l in
-        let u = rewritten-long t.heap.account k.more w in
         let e : Ready t i r.map (room_without r.map (cells_at t i)) r.size = record { slot = o; map = k.map; size_is = k.size; long = y } in
-        let v = rw (← grown-store g e w.grown) at w.applied in
-        removes-done removal_slot y u refl v w.written k.size
+        let v = rw (← grown-store g e w.longer.grown) at w.applied in
+        removes-done removal_slot y (rewritten-free g y k.more w) refl v w.written k.size
 
 module _ {t : State} {i : ℕ} {r : Removal} (g : Good t) (o : IsMap t i) (k : RemoveAsks t i r) (f : r.more ≤ length t.cells - t.heap.taken) where
   pub removal_ready : Ready t i r.map (room_without r.map (cells_at t i)) r.size
   removal_ready = record { slot = o; map = k.map; size_is = k.size; long = lengthens g o k.grows k.more f }
-
-  pub removal_taken : t.heap.taken + r.more ≤ CELLS_MAX
-  removal_taken = rw k.more (taken-fits g (lengthens g o k.grows k.more f) refl)

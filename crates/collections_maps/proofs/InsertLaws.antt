@@ -1,4 +1,5 @@
 -- The calls that add an entry: 9, 5, 7, or the entry. Assumes nothing.
+use Rattle.std.proofs.Common.{Result, Ok, Err}
 use Prim.Native.Nat.{ℕ, ◌-◌, ◌≤◌, ◌<◌}
 use mathlib.Core.Path.{◌≡◌, refl, ap, sym, ◌∙◌}
 use mathlib.Core.Bool.{Bool, true, false}
@@ -31,8 +32,6 @@ use Rattle.model.specs.Refusals.{first, slotless, target, unless}
 use Rattle.model.specs.Rules.{if_found, insert_room, map_room, on_map, put_room, same_room}
 use Rattle.model.specs.Terms.{a_map, charging, growth, key_traced, map_store, put_terms, spent, terms}
 use Rattle.heap.specs.declared.Heap.{Heap}
-use Rattle.heap.specs.declared.Located.{Located}
-use Rattle.heap.specs.declared.Located.TheVariants as L
 use Rattle.heap.specs.declared.Refusal.{Refusal}
 use Rattle.heap.specs.declared.Refusal.TheVariants as No
 use Rattle.heap.specs.Answers.{answered, number_of, refused}
@@ -143,11 +142,11 @@ module _ {t : State} {i hash key value : ℕ} {h : Header} {x : Scalars} {s : Ma
 
 -- ---- insert
 
-pub located_map : {t : State} {w i : ℕ} {r : Located} → Good t → Locates t.slots t.heap.fresh w 7 r → r ≡ L.At i → IsMap t i
+pub located_map : {t : State} {w i : ℕ} {r : Result ℕ Refusal} → Good t → Locates t.slots t.heap.fresh w 7 r → r ≡ Ok i → IsMap t i
 located_map g d e = target-map (located_at g d e)
 
-module _ {t : State} {w hash key value : ℕ} {r : Located} (g : Good t) (d : Locates t.slots t.heap.fresh w 7 r) where
-  pub insert-does : {i : ℕ} {o : Seen} {a : State} → r ≡ L.At i → Inserts t i hash key value o a → Performs (Calls.insert_entry w hash key value) t o a
+module _ {t : State} {w hash key value : ℕ} {r : Result ℕ Refusal} (g : Good t) (d : Locates t.slots t.heap.fresh w 7 r) where
+  pub insert-does : {i : ℕ} {o : Seen} {a : State} → r ≡ Ok i → Inserts t i hash key value o a → Performs (Calls.insert_entry w hash key value) t o a
   unfolding terms effect
   insert-does e v =
       v.does w (Calls.insert_entry w hash key value) (located_at g d e)
@@ -160,19 +159,19 @@ module _ {t : State} {w hash key value : ℕ} {r : Located} (g : Good t) (d : Lo
         room_is = λ l. refl;
       }
 
-  pub insert-refused : {q : Refusal} → r ≡ L.Refused q → Performs (Calls.insert_entry w hash key value) t (refused q) t
+  pub insert-refused : {q : Refusal} → r ≡ Err q → Performs (Calls.insert_entry w hash key value) t (refused q) t
   unfolding terms charging
   insert-refused e l = object-refused l g (Calls.insert_entry w hash key value) {rest = spent (model_of l t) w ∷ []} d e says_map refl refl
 
 -- ---- put
 
-put-refused-by : (l : Layout) {t : State} {w hash key value : ℕ} {r : Located} {q : Refusal} (o : Option ℕ) → Good t → Locates t.slots t.heap.fresh w 7 r → r ≡ L.Refused q → Maps.find (key_traced (model_of l t) w) hash key (map_store (model_of l t) w) ≡ o →
+put-refused-by : (l : Layout) {t : State} {w hash key value : ℕ} {r : Result ℕ Refusal} {q : Refusal} (o : Option ℕ) → Good t → Locates t.slots t.heap.fresh w 7 r → r ≡ Err q → Maps.find (key_traced (model_of l t) w) hash key (map_store (model_of l t) w) ≡ o →
     Does l (Calls.put w hash key value) t (refused q) t
 unfolding terms put_terms charging
 put-refused-by l {t} {w} {hash} {key} {value} none g d e f = object-refused l g (Calls.put w hash key value) {rest = spent (model_of l t) w ∷ []} d e says_map (rw f) (rw f)
 put-refused-by l {t} {w} {hash} {key} {value} (some p) g d e f = object-refused l g (Calls.put w hash key value) {rest = []} d e says_map (rw f) (rw f)
 
-pub put_refused : {t : State} {w hash key value : ℕ} {r : Located} {q : Refusal} → Good t → Locates t.slots t.heap.fresh w 7 r → r ≡ L.Refused q → Performs (Calls.put w hash key value) t (refused q) t
+pub put_refused : {t : State} {w hash key value : ℕ} {r : Result ℕ Refusal} {q : Refusal} → Good t → Locates t.slots t.heap.fresh w 7 r → r ≡ Err q → Performs (Calls.put w hash key value) t (refused q) t
 put_refused g d e l = put-refused-by l _ g d e refl
 
 module _ {t : State} {w i : ℕ} {h : Header} {x : Scalars} {s : MapStore} {c : List ℕ} (m : MapHere t w i h x s c) {f : Prelude.Option ℕ} {hash key : ℕ} (k : Sought x s c hash key f) where

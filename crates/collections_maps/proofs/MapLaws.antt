@@ -1,21 +1,19 @@
 -- Readings of a map. Assumes nothing.
+use native.Mathlib.Omega.{arith}
+use Rattle.std.proofs.Common.{Result, Ok, Err, Some, None}
 use Prim.Native.Nat.{ℕ, ◌+◌, ◌*◌, ◌/◌, ◌≤◌, ◌<◌}
 use mathlib.Core.Path.{◌≡◌, refl, ap, sym, ◌∙◌}
-use mathlib.Core.Bool.{Bool, true, false, cond, not}
+use mathlib.Core.Bool.{Bool}
 use mathlib.Core.List.{List, [], ◌∷◌}
-use mathlib.Core.Option.{none, some}
-use lib.Dec.{eqb}
 use lib.IntN.{ℤ}
 use lib.ListN.{length}
 use Rattle.heap_slots.specs.Header.{header_at, scalars_at}
 use Rattle.heap_slots.specs.Limits.{HasSlot}
-use Rattle.words.specs.Word.{signed_bits}
 use Rattle.heap_slots.specs.declared.Header.{Header}
 use Rattle.heap_slots.specs.Scalars.{map_part, scalars_of_map}
 use Rattle.heap_slots.specs.declared.MapScalars.{MapScalars}
 use Rattle.heap_slots.specs.declared.Scalars.{Scalars}
 use Rattle.heap_cells.specs.Regions.{raw_at, region_of}
-use Rattle.history.proofs.Facts.{eqb_no, eqb_yes}
 use Rattle.layout.specs.Layout.{Layout, is_traced}
 use Rattle.map_store.specs.Store as Maps
 use Rattle.map_store.specs.Entries.{length_entries}
@@ -28,18 +26,15 @@ use Rattle.map_store.specs.declared.Stepped.{Stepped}
 use Rattle.map_store.specs.declared.Stored.{Stored}
 use Rattle.model.specs.Calls as Calls
 use Rattle.model.specs.Calls.{effect}
-use Rattle.model.specs.Replies.{cursor_at, entry_is, next_integer, noted, nothing, number, perhaps, reply, truth}
+use Rattle.model.specs.Replies.{cursor_at, entry_is, next_integer, noted, number, perhaps, truth}
 use Rattle.model.specs.Slots as Slots
 use Rattle.model.specs.Refusals.{inside}
 use Rattle.model.specs.Terms.{growth, key_traced, map_store, terms, uncharged}
 use Rattle.heap.proofs.GoodLaws.{holds_as}
-use Rattle.heap.specs.declared.Located.{Located}
-use Rattle.heap.specs.declared.Located.TheVariants as L
 use Rattle.heap.specs.declared.Refusal.{Refusal}
 use Rattle.heap.specs.declared.Refusal.TheVariants as No
-use Rattle.heap.specs.declared.Reading.TheVariants as Read
-use Rattle.heap.specs.Answers.{answered, number_of, reading_is, refused}
-use Rattle.heap.specs.Kinds.{noted_from, yes}
+use Rattle.heap.specs.Answers.{reading_is, seen_by, test_is}
+use Rattle.heap.specs.Kinds.{yes}
 use Rattle.heap.specs.Locating.{Locates}
 use Rattle.heap.specs.State.{State, model_of, more_of, raw_of}
 use Rattle.heap.specs.Good.{Good}
@@ -48,13 +43,15 @@ use Rattle.heap.proofs.KindLaws.{room-map, says_map}
 use Rattle.heap.proofs.ReachLaws.{Target, located_at, reached-room, scalars_fit}
 use Rattle.heap.proofs.ReadLaws.{object-answered, object-inside, object-outside, object-refused, reads_key_traced, reads_map, reads_map_store}
 use Rattle.collections_maps.specs.Changes.{IsMap}
-use Rattle.collections_growth.specs.Words.{map_from}
+use Rattle.collections_maps.specs.Reading.{Found, MapAt}
+use Rattle.std.specs.Option.{ok_or}
+use Rattle.std.proofs.Common.{MatchOption, IsSomeAnd}
+use Rattle.collections_maps.specs.declared.MapRead.{MapRead}
+use Rattle.map_store.specs.declared.reading.Map as MapType
+use Rattle.collections_growth.specs.Words.{MapIn, MapKnown, map_from}
 use Rattle.collections_growth.proofs.ReadingLaws.{row-answered, row-refused}
-use Rattle.collections_maps.specs.Answers.{lent_seen, step_seen}
+use Rattle.collections_maps.specs.Answers.{entry_seen, lent_seen, next_seen, noted_seen, step_seen}
 use Rattle.collections_growth.specs.Answers.{perhaps_is}
-use Rattle.collections_maps.specs.declared.Moved.{Moved}
-use Rattle.collections_maps.specs.declared.Moved.TheVariants as M
-use Rattle.collections_growth.specs.declared.Perhaps.TheVariants as P
 use Rattle.collections_growth.proofs.EntryLaws.{entry_beyond, entry-inside}
 
 -- ---- what the store says of its parts
@@ -68,15 +65,6 @@ module _ {t : State} {w i : ℕ} (g : Good t) (o : Target t w i 7) where
 
   pub map_room : (l : Layout) → Slots.room_of (model_of l t).table w ≡ record { capacity = (raw_of t i).value; index = (raw_of t i).mode }
   map_room l = reached-room o.reached l ∙ room-map (raw_of t i) o.kind-is
-
--- ---- the noted key
-
-noted-by : (n w : ℕ) → noted_of (noted_from n w) ≡ cond (eqb n 0) none (some (signed_bits w))
-noted-by n w = go (eqb n 0)
-  where
-    go : (b : Bool) → noted_of (cond b Prelude.None (Prelude.Some (signed_bits w))) ≡ cond b none (some (signed_bits w))
-    go true = refl
-    go false = refl
 
 -- ---- a map that is located
 
@@ -110,6 +98,9 @@ module _ {t : State} {i : ℕ} {h : Header} {x : Scalars} {s : MapStore} {c : Li
   unfolding raw_at
   map-size = rw (m.map, m.header) (holds_as 7 m.kind (m.good.each i m.within)).1
 
+pub slot-known : {t : State} {i : ℕ} {h : Header} {x : MapScalars} → Good t → IsMap t i → h ≡ header_at t.slots i → x ≡ map_part (scalars_at t.scalars i) → MapKnown t.cells h x
+slot-known g o a b = record { good = map-good (map-slot g o a b refl refl); region = slot-region g o a; epoch = slot-epoch g o b }
+
 -- that w reaches
 pub record MapHere (t : State) (w i : ℕ) (h : Header) (x : Scalars) (s : MapStore) (c : List ℕ) : Type 0 where
   pub good : Good t
@@ -133,7 +124,7 @@ target-map o = record { within = o.reached.within; kind = o.kind-is }
 pub here-at : {t : State} {w i : ℕ} {h : Header} {x : MapScalars} {s : MapStore} {c : List ℕ} → Good t → Target t w i 7 → h ≡ header_at t.slots i → x ≡ map_part (scalars_at t.scalars i) → s ≡ map_from h x → c ≡ region_of h t.cells → MapHere t w i h (scalars_of_map x) s c
 here-at g o a b m n = record { good = g; target = o; header = a; scalars = ap scalars_of_map b; map = m; cells = n }
 
-module _ {t : State} {w i : ℕ} {r : Located} (g : Good t) (d : Locates t.slots t.heap.fresh w 7 r) (e : r ≡ L.At i) where
+module _ {t : State} {w i : ℕ} {r : Result ℕ Refusal} (g : Good t) (d : Locates t.slots t.heap.fresh w 7 r) (e : r ≡ Ok i) where
   pub map-scalars-fit : HasSlot t.scalars i
   map-scalars-fit = scalars_fit g (located_at g d e).reached
 
@@ -163,50 +154,35 @@ module _ {t : State} {w i : ℕ} {h : Header} {x : Scalars} {s : MapStore} {c : 
 
   -- ---- what the calls answer
 
-  pub find_at : {f : Prelude.Option ℕ} {b : Bool} {hash key pos : ℕ} → b ≡ is_traced x.a → position f ≡ Maps.find b hash key (store_of s c) → f ≡ Prelude.Some pos → Reads (Calls.find w hash key) t (answered (perhaps (some pos)))
-  unfolding terms effect uncharged
-  find_at {hash = hash} {key = key} b f e =
-      row-answered m.good record { effect_is = λ l. refl; terms_are = λ l. refl } says_map m.target
-      (λ l. ap perhaps (rw (here-traced l, here-store l, ← b) (sym f ∙ ap position e)))
+  pub find_read : (f : Prelude.Option ℕ) {b : Bool} {hash key : ℕ} → b ≡ is_traced x.a → position f ≡ Maps.find b hash key (store_of s c) → Reads (Calls.find w hash key) t (perhaps_is (Ok f))
+  unfolding terms effect uncharged seen_by
+  find_read f b q = row-answered m.good record { effect_is = λ l. refl; terms_are = λ l. refl } says_map m.target (λ l. ap perhaps (rw (here-traced l, here-store l, ← b) (sym q)))
 
-  pub find-nothing : {f : Prelude.Option ℕ} {b : Bool} {hash key : ℕ} → b ≡ is_traced x.a → position f ≡ Maps.find b hash key (store_of s c) → f ≡ Prelude.None → Reads (Calls.find w hash key) t (answered (perhaps none))
-  unfolding terms effect uncharged
-  find-nothing b f e =
-      row-answered m.good record { effect_is = λ l. refl; terms_are = λ l. refl } says_map m.target
-      (λ l. ap perhaps (rw (here-traced l, here-store l, ← b) (sym f ∙ ap position e)))
-
-  pub growth_read : {b : Bool} {key n : ℕ} → b ≡ is_traced x.a → n ≡ Maps.bytes_of_growth t.heap.weights.entry b key (store_of s c) (View.room_of s) → Reads (Calls.growth_bytes w key) t (answered (number n))
-  unfolding terms effect uncharged growth model_of
+  pub growth_read : {b : Bool} {key n : ℕ} → b ≡ is_traced x.a → n ≡ Maps.bytes_of_growth t.heap.weights.entry b key (store_of s c) (View.room_of s) → Reads (Calls.growth_bytes w key) t (reading_is (Ok n))
+  unfolding terms effect uncharged growth model_of seen_by
   growth_read b e =
       row-answered m.good record { effect_is = λ l. refl; terms_are = λ l. refl } says_map m.target
       (λ l. ap number (rw (here-traced l, here-store l, here-room l, ← b) (sym e)))
 
-  pub next-is : {n : Prelude.Option ℤ} {k : ℤ} → next_is n ≡ Maps.key_after_noted (store_of s c) → n ≡ Prelude.Some k → Reads (Calls.next_key w) t (answered (next_integer (some k)))
-  unfolding terms effect uncharged
-  next-is f e =
-      row-answered m.good record { effect_is = λ l. refl; terms_are = λ l. refl } says_map m.target
-      (λ l. ap next_integer (rw (here-store l) (sym f ∙ ap next_is e)))
+  pub noted_read : Reads (Calls.noted_key w) t (noted_seen (Ok s.noted))
+  unfolding terms effect uncharged seen_by
+  noted_read = row-answered m.good record { effect_is = λ l. refl; terms_are = λ l. refl } says_map m.target (λ l. ap (λ (z : Maps.Store). noted z.noted) (here-store l))
 
-  pub next_past : {n : Prelude.Option ℤ} → next_is n ≡ Maps.key_after_noted (store_of s c) → n ≡ Prelude.None → Reads (Calls.next_key w) t (answered (next_integer none))
-  unfolding terms effect uncharged
-  next_past f e =
-      row-answered m.good record { effect_is = λ l. refl; terms_are = λ l. refl } says_map m.target
-      (λ l. ap next_integer (rw (here-store l) (sym f ∙ ap next_is e)))
+  pub next_read : (n : Prelude.Option ℤ) → next_is n ≡ Maps.key_after_noted (store_of s c) → Reads (Calls.next_key w) t (next_seen (Ok n))
+  unfolding terms effect uncharged seen_by
+  next_read n f = row-answered m.good record { effect_is = λ l. refl; terms_are = λ l. refl } says_map m.target (λ l. ap next_integer (rw (here-store l) (sym f)))
 
   -- an entry inside, or 3
-  pub entry_at : {n : Prelude.Option Stored} {e : Stored} {pos : ℕ} → got_is n ≡ entry_answer pos (store_of s c) → n ≡ Prelude.Some e → Reads (Calls.read_entry w pos) t (answered (entry_is (stored_entry e)))
-  unfolding terms effect uncharged
-  entry_at {pos = pos} f e l =
-      let z = entry-inside pos (store_of s c) f e in
+  pub entry_read : (n : Prelude.Option Stored) {pos : ℕ} → got_is n ≡ entry_answer pos (store_of s c) → Reads (Calls.read_entry w pos) t (entry_seen (ok_or n No.Outside))
+  unfolding terms effect uncharged seen_by
+  entry_read (Prelude.Some e) {pos} f l =
+      let z = entry-inside pos (store_of s c) f refl in
       object-inside l m.good (Calls.read_entry w pos) m.target says_map {p = pos} {n = Maps.places (map_store (model_of l t) w)} refl (rw (here-store l) z.0) refl refl refl (ap entry_is (rw (here-store l) z.1))
+  entry_read Prelude.None {pos} f l =
+      object-outside l m.good (Calls.read_entry w pos) m.target says_map {p = pos} {n = Maps.places (map_store (model_of l t) w)} refl (rw (here-store l) (entry_beyond pos (store_of s c) f refl)) refl
 
-  pub entry-outside : {n : Prelude.Option Stored} {pos : ℕ} → got_is n ≡ entry_answer pos (store_of s c) → n ≡ Prelude.None → Reads (Calls.read_entry w pos) t (refused No.Outside)
-  unfolding terms effect uncharged
-  entry-outside {pos = pos} f e l =
-      object-outside l m.good (Calls.read_entry w pos) m.target says_map {p = pos} {n = Maps.places (map_store (model_of l t) w)} refl (rw (here-store l) (entry_beyond pos (store_of s c) f e)) refl
-
-  pub step_read : {z : Maps.Cursor} (n : Stepped) → step_is n ≡ Maps.next_of (store_of s c) z → Reads (Calls.next w z) t record { refusal = 0; answer = reply (perhaps (position n.found)); lent = cursor_at (cursor_is n.cursor) }
-  unfolding terms effect
+  pub step_read : {z : Maps.Cursor} (n : Stepped) → step_is n ≡ Maps.next_of (store_of s c) z → Reads (Calls.next w z) t (step_seen z (Ok n))
+  unfolding terms effect step_seen
   step_read {z} n f l =
       object-answered l m.good (Calls.next w z) m.target says_map refl refl refl
       (ap cursor_at (rw (here-store l) (ap (λ (q : Maps.Step). q.cursor) (sym f)))) (ap perhaps (rw (here-store l) (ap (λ (q : Maps.Step). q.answer) (sym f))))
@@ -219,137 +195,151 @@ pub record Sought (x : Scalars) (s : MapStore) (c : List ℕ) (hash key : ℕ) (
 pub sought : {x : Scalars} {s : MapStore} {c : List ℕ} {hash key : ℕ} {f : Prelude.Option ℕ} {b : Bool} → b ≡ is_traced x.a → position f ≡ Maps.find b hash key (store_of s c) → Sought x s c hash key f
 sought e h = record { is = rw e at h }
 
+-- ---- the map that the readings find
+
+pub found-here : {t : State} {w : ℕ} {m : MapRead} → Good t → (f : Found t w m) → MapHere t w f.slot (header_at t.slots f.slot) (scalars_at t.scalars f.slot) m.map.store m.map.cells.now
+found-here g f = record { good = g; target = f.target; header = refl; scalars = refl; map = f.store; cells = f.cells }
+
+module _ {t : State} {w : ℕ} {r : Result ℕ Refusal} (g : Good t) (d : Locates t.slots t.heap.fresh w 7 r) where
+  pub map-missed : {q : Refusal} → r ≡ Err q → MapAt t w (Err q)
+  map-missed {q} e = record {
+    found = λ m x. absurd (let z : ◌≡◌ {A = ℕ} 0 1 = cc in omega arith);
+    refused = λ q' x. let y : q ≡ q' = cc in rw (← y, ← e) d;
+  }
+
+  pub map-found : {i : ℕ} {h : Header} {x : MapScalars} {b : Bool} {z : MapType.Map} → r ≡ Ok i → h ≡ header_at t.slots i → x ≡ map_part (scalars_at t.scalars i) → MapIn t.cells h x z → b ≡ is_traced x.keys →
+      MapAt t w (Ok record { map = z; traced = b })
+  map-found {i} {b = b} {z = z} e eh ex k eb =
+      let f : Found t w record { map = z; traced = b } = record {
+        slot = i;
+        target = located_at g d e;
+        store = k.store ∙ rw (eh, ex);
+        cells = k.cells ∙ rw eh;
+        traced = eb ∙ rw ex;
+      } in
+      record {
+        found = λ m x. let y : record { map = z; traced = b } ≡ m = cc in rw (← y) f;
+        refused = λ q x. absurd (let z : ◌≡◌ {A = ℕ} 0 1 = cc in omega arith);
+      }
+
 -- ---- one number of a map that is located
 
-module _ {t : State} {w i : ℕ} {r : Located} (g : Good t) (d : Locates t.slots t.heap.fresh w 7 r) (e : r ≡ L.At i) where
+module _ {t : State} {w i : ℕ} {r : Result ℕ Refusal} (g : Good t) (d : Locates t.slots t.heap.fresh w 7 r) (e : r ≡ Ok i) where
   module _ {x : MapScalars} (p : x ≡ map_part (scalars_at t.scalars i)) where
-    pub live_read : Reads (Calls.live_count w) t (reading_is (Read.Is x.live))
-    unfolding terms effect uncharged reading_is
+    pub live_read : Reads (Calls.live_count w) t (reading_is (Ok x.live))
+    unfolding terms effect uncharged seen_by
     live_read = row-answered g record { effect_is = λ l. refl; terms_are = λ l. refl } says_map (located_at g d e) (λ l. ap number (map-living g (located_at g d e) l ∙ rw p))
 
-    pub key-type_read : Reads (Calls.key_type w) t (reading_is (Read.Is x.keys))
-    unfolding terms effect uncharged reading_is
+    pub key-type_read : Reads (Calls.key_type w) t (reading_is (Ok x.keys))
+    unfolding terms effect uncharged seen_by
     key-type_read = row-answered g record { effect_is = λ l. refl; terms_are = λ l. refl } says_map (located_at g d e) (λ l. ap number (reads_map l 0 (λ m. m.key_type) (located_at g d e) ∙ rw p))
 
-    pub value-type_read : Reads (Calls.value_type w) t (reading_is (Read.Is x.values))
-    unfolding terms effect uncharged reading_is
+    pub value-type_read : Reads (Calls.value_type w) t (reading_is (Ok x.values))
+    unfolding terms effect uncharged seen_by
     value-type_read = row-answered g record { effect_is = λ l. refl; terms_are = λ l. refl } says_map (located_at g d e) (λ l. ap number (reads_map l 0 (λ m. m.value_type) (located_at g d e) ∙ rw p))
 
-    pub epoch_read : Reads (Calls.map_epoch w) t (reading_is (Read.Is x.epoch))
-    unfolding terms effect uncharged reading_is
+    pub epoch_read : Reads (Calls.map_epoch w) t (reading_is (Ok x.epoch))
+    unfolding terms effect uncharged seen_by
     epoch_read = row-answered g record { effect_is = λ l. refl; terms_are = λ l. refl } says_map (located_at g d e) (λ l. ap number (ap (λ (s : Maps.Store). s.epoch) (reads_map_store l (located_at g d e)) ∙ rw p))
 
-    pub sequence_read : Reads (Calls.next_sequence w) t (reading_is (Read.Is x.next))
-    unfolding terms effect uncharged reading_is
+    pub sequence_read : Reads (Calls.next_sequence w) t (reading_is (Ok x.next))
+    unfolding terms effect uncharged seen_by
     sequence_read = row-answered g record { effect_is = λ l. refl; terms_are = λ l. refl } says_map (located_at g d e) (λ l. ap number (ap (λ (s : Maps.Store). s.next_seq) (reads_map_store l (located_at g d e)) ∙ rw p))
 
-    pub hashed_read : Reads (Calls.is_hashed w) t (answered (truth (yes x.hashed)))
-    unfolding terms effect uncharged
+    pub hashed_read : Reads (Calls.is_hashed w) t (test_is (Ok (yes x.hashed)))
+    unfolding terms effect uncharged seen_by
     hashed_read = row-answered g record { effect_is = λ l. refl; terms_are = λ l. refl } says_map (located_at g d e) (λ l. ap truth (ap (λ (s : Maps.Store). s.hashed) (reads_map_store l (located_at g d e)) ∙ rw p))
 
   module _ {h : Header} (p : h ≡ header_at t.slots i) where
-    pub places_read : Reads (Calls.place_count w) t (reading_is (Read.Is h.len))
-    unfolding terms effect uncharged reading_is raw_at
+    pub places_read : Reads (Calls.place_count w) t (reading_is (Ok h.len))
+    unfolding terms effect uncharged seen_by raw_at
     places_read = row-answered g record { effect_is = λ l. refl; terms_are = λ l. refl } says_map (located_at g d e) (λ l. ap number (map-places g (located_at g d e) l ∙ rw p))
 
-    pub capacity_read : Reads (Calls.entry_capacity w) t (reading_is (Read.Is h.value))
-    unfolding terms effect uncharged reading_is raw_at
+    pub capacity_read : Reads (Calls.entry_capacity w) t (reading_is (Ok h.value))
+    unfolding terms effect uncharged seen_by raw_at
     capacity_read = row-answered g record { effect_is = λ l. refl; terms_are = λ l. refl } says_map (located_at g d e) (λ l. ap number (ap (λ (q : Maps.Room). q.capacity) (map_room g (located_at g d e) l) ∙ rw p))
 
-    pub index_read : Reads (Calls.index_length w) t (reading_is (Read.Is h.mode))
-    unfolding terms effect uncharged reading_is raw_at
+    pub index_read : Reads (Calls.index_length w) t (reading_is (Ok h.mode))
+    unfolding terms effect uncharged seen_by raw_at
     index_read = row-answered g record { effect_is = λ l. refl; terms_are = λ l. refl } says_map (located_at g d e) (λ l. ap number (ap (λ (q : Maps.Room). q.index) (map_room g (located_at g d e) l) ∙ rw p))
-
--- ---- the noted key of a map that is located
-
-module _ {t : State} {w i : ℕ} {x : MapScalars} {r : Located} (g : Good t) (d : Locates t.slots t.heap.fresh w 7 r) (e : r ≡ L.At i) (p : x ≡ map_part (scalars_at t.scalars i)) where
-  noted-is : (l : Layout) → (map_store (model_of l t) w).noted ≡ cond (eqb x.known 0) none (some (signed_bits x.noted))
-  noted-is l = ap (λ (s : Maps.Store). s.noted) (reads_map_store l (located_at g d e)) ∙ rw p (noted-by (scalars_at t.scalars i).d (scalars_at t.scalars i).e)
-
-  pub noted_nothing : x.known ≡ 0 → Reads (Calls.noted_key w) t (answered (noted none))
-  unfolding terms effect uncharged
-  noted_nothing z =
-      row-answered g record { effect_is = λ l. refl; terms_are = λ l. refl } says_map (located_at g d e) (λ l. ap noted (noted-is l ∙ rw (eqb_yes x.known 0 z)))
-
-  pub noted-some : {k : ℤ} → (x.known ≡ 0 → ⊥) → k ≡ signed_bits x.noted → Reads (Calls.noted_key w) t (answered (noted (some k)))
-  unfolding terms effect uncharged
-  noted-some z k =
-      row-answered g record { effect_is = λ l. refl; terms_are = λ l. refl } says_map (located_at g d e) (λ l. ap noted (noted-is l ∙ rw (eqb_no x.known 0 z, k)))
 
 -- ---- 1, 11 and 2
 
-module _ {t : State} {w : ℕ} {r : Located} {q : Refusal} (g : Good t) (d : Locates t.slots t.heap.fresh w 7 r) (e : r ≡ L.Refused q) where
-  pub live-refused : Reads (Calls.live_count w) t (reading_is (Read.Refused q))
-  unfolding terms effect uncharged reading_is
+module _ {t : State} {w : ℕ} {r : Result ℕ Refusal} {q : Refusal} (g : Good t) (d : Locates t.slots t.heap.fresh w 7 r) (e : r ≡ Err q) where
+  pub live-refused : Reads (Calls.live_count w) t (reading_is (Err q))
+  unfolding terms effect uncharged seen_by
   live-refused = row-refused g record { effect_is = λ l. refl; terms_are = λ l. refl } says_map d e
 
-  pub places-refused : Reads (Calls.place_count w) t (reading_is (Read.Refused q))
-  unfolding terms effect uncharged reading_is
+  pub places-refused : Reads (Calls.place_count w) t (reading_is (Err q))
+  unfolding terms effect uncharged seen_by
   places-refused = row-refused g record { effect_is = λ l. refl; terms_are = λ l. refl } says_map d e
 
-  pub hashed-refused : Reads (Calls.is_hashed w) t (refused q)
-  unfolding terms effect uncharged
+  pub hashed-refused : Reads (Calls.is_hashed w) t (test_is (Err q))
+  unfolding terms effect uncharged seen_by
   hashed-refused = row-refused g record { effect_is = λ l. refl; terms_are = λ l. refl } says_map d e
 
-  pub key-type-refused : Reads (Calls.key_type w) t (reading_is (Read.Refused q))
-  unfolding terms effect uncharged reading_is
+  pub key-type-refused : Reads (Calls.key_type w) t (reading_is (Err q))
+  unfolding terms effect uncharged seen_by
   key-type-refused = row-refused g record { effect_is = λ l. refl; terms_are = λ l. refl } says_map d e
 
-  pub value-type-refused : Reads (Calls.value_type w) t (reading_is (Read.Refused q))
-  unfolding terms effect uncharged reading_is
+  pub value-type-refused : Reads (Calls.value_type w) t (reading_is (Err q))
+  unfolding terms effect uncharged seen_by
   value-type-refused = row-refused g record { effect_is = λ l. refl; terms_are = λ l. refl } says_map d e
 
-  pub epoch-refused : Reads (Calls.map_epoch w) t (reading_is (Read.Refused q))
-  unfolding terms effect uncharged reading_is
+  pub epoch-refused : Reads (Calls.map_epoch w) t (reading_is (Err q))
+  unfolding terms effect uncharged seen_by
   epoch-refused = row-refused g record { effect_is = λ l. refl; terms_are = λ l. refl } says_map d e
 
-  pub sequence-refused : Reads (Calls.next_sequence w) t (reading_is (Read.Refused q))
-  unfolding terms effect uncharged reading_is
+  pub sequence-refused : Reads (Calls.next_sequence w) t (reading_is (Err q))
+  unfolding terms effect uncharged seen_by
   sequence-refused = row-refused g record { effect_is = λ l. refl; terms_are = λ l. refl } says_map d e
 
-  pub capacity-refused : Reads (Calls.entry_capacity w) t (reading_is (Read.Refused q))
-  unfolding terms effect uncharged reading_is
+  pub capacity-refused : Reads (Calls.entry_capacity w) t (reading_is (Err q))
+  unfolding terms effect uncharged seen_by
   capacity-refused = row-refused g record { effect_is = λ l. refl; terms_are = λ l. refl } says_map d e
 
-  pub index-refused : Reads (Calls.index_length w) t (reading_is (Read.Refused q))
-  unfolding terms effect uncharged reading_is
+  pub index-refused : Reads (Calls.index_length w) t (reading_is (Err q))
+  unfolding terms effect uncharged seen_by
   index-refused = row-refused g record { effect_is = λ l. refl; terms_are = λ l. refl } says_map d e
 
-  pub find-refused : {hash key : ℕ} → Reads (Calls.find w hash key) t (refused q)
-  unfolding terms effect uncharged
+  pub find-refused : {hash key : ℕ} → Reads (Calls.find w hash key) t (perhaps_is (Err q))
+  unfolding terms effect uncharged seen_by
   find-refused = row-refused g record { effect_is = λ l. refl; terms_are = λ l. refl } says_map d e
 
-  pub growth-refused : {key : ℕ} → Reads (Calls.growth_bytes w key) t (refused q)
-  unfolding terms effect uncharged
+  pub growth-refused : {key : ℕ} → Reads (Calls.growth_bytes w key) t (reading_is (Err q))
+  unfolding terms effect uncharged seen_by
   growth-refused = row-refused g record { effect_is = λ l. refl; terms_are = λ l. refl } says_map d e
 
-  pub next-refused : Reads (Calls.next_key w) t (refused q)
-  unfolding terms effect uncharged
+  pub next-refused : Reads (Calls.next_key w) t (next_seen (Err q))
+  unfolding terms effect uncharged seen_by
   next-refused = row-refused g record { effect_is = λ l. refl; terms_are = λ l. refl } says_map d e
 
-  pub noted-refused : Reads (Calls.noted_key w) t (refused q)
-  unfolding terms effect uncharged
+  pub noted-refused : Reads (Calls.noted_key w) t (noted_seen (Err q))
+  unfolding terms effect uncharged seen_by
   noted-refused = row-refused g record { effect_is = λ l. refl; terms_are = λ l. refl } says_map d e
 
-  pub entry-refused : {pos : ℕ} → Reads (Calls.read_entry w pos) t (refused q)
-  unfolding terms effect uncharged
+  pub entry-refused : {pos : ℕ} → Reads (Calls.read_entry w pos) t (entry_seen (Err q))
+  unfolding terms effect uncharged seen_by
   entry-refused {pos} l = object-refused l g (Calls.read_entry w pos) {rest = inside pos (Maps.places (map_store (model_of l t) w)) ∷ []} d e says_map refl refl
 
-  pub step-refused : {z : Maps.Cursor} → Reads (Calls.next w z) t record { refusal = number_of q; answer = reply nothing; lent = cursor_at z }
-  unfolding terms effect
+  pub step-refused : {z : Maps.Cursor} → Reads (Calls.next w z) t (step_seen z (Err q))
+  unfolding terms effect step_seen
   step-refused {z} l = object-refused l g (Calls.next w z) {rest = []} d e says_map refl refl
+
+-- ---- a position as a word
+
+pub same_position : (o r : Prelude.Option ℕ) (post : ℕ → ℕ → Type 0) → MatchOption o (r ≡ Prelude.None) (λ p. IsSomeAnd r (post p)) → ((p q : ℕ) → post p q → q ≡ p) → r ≡ o
+same_position Prelude.None r post h f = h
+same_position (Prelude.Some p) (Prelude.Some q) post h f = ap Prelude.Some (f p q h)
+same_position (Prelude.Some p) Prelude.None post h f = absurd h
 
 -- ---- the cursor that `next` is lent
 
-module _ {k : Calls.Call} {t : State} (z : Maps.Cursor) (m : Moved) (h : Reads k t (step_seen z m)) where
-  pub lent-kept : {q : Refusal} → m ≡ M.Refused q → Reads k t (lent_seen z (P.Refused q))
-  unfolding step_seen lent_seen perhaps_is
+module _ {k : Calls.Call} {t : State} (z : Maps.Cursor) (m : Result Stepped Refusal) (h : Reads k t (step_seen z m)) where
+  pub lent-kept : {q : Refusal} → m ≡ Err q → Reads k t (lent_seen z (Err q))
+  unfolding step_seen lent_seen seen_by
   lent-kept e = rw e at h
 
-  pub lent-ended : (s : Stepped) → m ≡ M.Is s → s.found ≡ Prelude.None → Reads k t (lent_seen (cursor_is s.cursor) P.Absent)
-  unfolding step_seen lent_seen perhaps_is
-  lent-ended s e f = rw f at (rw e at h)
-
-  pub lent-moved : (s : Stepped) {p : ℕ} → m ≡ M.Is s → s.found ≡ Prelude.Some p → Reads k t (lent_seen (cursor_is s.cursor) (P.Is p))
-  unfolding step_seen lent_seen perhaps_is
-  lent-moved s e f = rw f at (rw e at h)
+  pub lent-moved : (s : Stepped) → m ≡ Ok s → Reads k t (lent_seen (cursor_is s.cursor) (Ok s.found))
+  unfolding step_seen lent_seen seen_by
+  lent-moved s e = rw e at h

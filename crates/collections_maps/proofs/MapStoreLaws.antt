@@ -1,4 +1,5 @@
 -- A map that is changed in its slot. Assumes nothing.
+use Rattle.std.proofs.Common.{Result, Err}
 use Prim.Native.Nat.{ℕ, ◌+◌, ◌*◌, ◌/◌, ◌≤◌, ◌<◌}
 use mathlib.Core.Path.{◌≡◌, refl, ap, sym, ◌∙◌}
 use mathlib.Core.Bool.{Bool, true, false}
@@ -20,12 +21,9 @@ use Rattle.model.specs.Calls as Calls
 use Rattle.model.specs.Calls.{effect}
 use Rattle.model.specs.Content.{Content, map_object}
 use Rattle.model.specs.Replies.{nothing}
-use Rattle.model.specs.Refusals.{target}
 use Rattle.model.specs.Rules.{on_map, same_room}
 use Rattle.model.specs.Terms.{terms, uncharged}
 use Rattle.heap.proofs.GoodLaws.{good_as, holds_as}
-use Rattle.heap.specs.declared.Located.{Located}
-use Rattle.heap.specs.declared.Located.TheVariants as L
 use Rattle.heap.specs.declared.Refusal.{Refusal}
 use Rattle.heap.specs.Answers.{answered, refused}
 use Rattle.heap.specs.Kinds.{content_of, map_of, room_of, yes}
@@ -155,7 +153,7 @@ module _ {t : State} {w i : ℕ} {h : Header} {x : Scalars} {s : MapStore} {c : 
   key-noted {k} q u l =
       does_stored_free l m.good m.target.reached (note_stored k q u) (Calls.note w k) refl refl refl (object_passes l m.good (Calls.note w k) m.target says_map refl) refl refl
 
-module _ {t : State} {w : ℕ} {r : Located} {q : Refusal} (g : Good t) (d : Locates t.slots t.heap.fresh w 7 r) (e : r ≡ L.Refused q) where
+module _ {t : State} {w : ℕ} {r : Result ℕ Refusal} {q : Refusal} (g : Good t) (d : Locates t.slots t.heap.fresh w 7 r) (e : r ≡ Err q) where
   pub value-refused : {pos v : ℕ} → Performs (Calls.set_value w pos v) t (refused q) t
   unfolding terms effect uncharged
   value-refused {pos} {v} l = object-refused l g (Calls.set_value w pos v) {rest = []} d e says_map refl refl

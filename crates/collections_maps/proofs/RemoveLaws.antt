@@ -1,4 +1,5 @@
 -- The calls that remove an entry: 7, or the removal. Assumes nothing.
+use Rattle.std.proofs.Common.{Result, Ok, Err}
 use Prim.Native.Nat.{ℕ, ◌-◌, ◌<◌}
 use mathlib.Core.Path.{◌≡◌, refl, ap, sym, ◌∙◌}
 use mathlib.Core.Bool.{Bool, true}
@@ -25,8 +26,6 @@ use Rattle.model.specs.Refusals.{budget, first, slotless}
 use Rattle.model.specs.Rules.{if_found, map_room, on_map, remove_at_room, remove_room}
 use Rattle.model.specs.Terms.{terms, uncharged}
 use Rattle.heap.specs.declared.Heap.{Heap}
-use Rattle.heap.specs.declared.Located.{Located}
-use Rattle.heap.specs.declared.Located.TheVariants as L
 use Rattle.heap.specs.declared.Refusal.{Refusal}
 use Rattle.heap.specs.declared.Refusal.TheVariants as No
 use Rattle.heap.specs.Answers.{answered, refused}
@@ -99,8 +98,8 @@ module _ {t : State} {i pos : ℕ} {h : Header} {x : Scalars} {s : MapStore} {c 
 
 -- ---- by position
 
-module _ {t : State} {w : ℕ} {r : Located} (g : Good t) (d : Locates t.slots t.heap.fresh w 7 r) where
-  pub remove-at-does : {i pos : ℕ} {o : Seen} {a : State} → r ≡ L.At i → Removes t i pos o a → Performs (Calls.remove_at w pos) t o a
+module _ {t : State} {w : ℕ} {r : Result ℕ Refusal} (g : Good t) (d : Locates t.slots t.heap.fresh w 7 r) where
+  pub remove-at-does : {i pos : ℕ} {o : Seen} {a : State} → r ≡ Ok i → Removes t i pos o a → Performs (Calls.remove_at w pos) t o a
   unfolding terms effect
   remove-at-does {pos = pos} e v =
       v.does w (Calls.remove_at w pos) (located_at g d e)
@@ -113,11 +112,11 @@ module _ {t : State} {w : ℕ} {r : Located} (g : Good t) (d : Locates t.slots t
         room_is = λ l. refl;
       }
 
-  pub remove-at-refused : {pos : ℕ} {q : Refusal} → r ≡ L.Refused q → Performs (Calls.remove_at w pos) t (refused q) t
+  pub remove-at-refused : {pos : ℕ} {q : Refusal} → r ≡ Err q → Performs (Calls.remove_at w pos) t (refused q) t
   unfolding terms uncharged
   remove-at-refused {pos} e l = object-refused l g (Calls.remove_at w pos) {rest = []} d e says_map refl refl
 
-  pub remove-refused : {hash key : ℕ} {q : Refusal} → r ≡ L.Refused q → Performs (Calls.remove w hash key) t (refused q) t
+  pub remove-refused : {hash key : ℕ} {q : Refusal} → r ≡ Err q → Performs (Calls.remove w hash key) t (refused q) t
   unfolding terms uncharged
   remove-refused {hash} {key} e l = object-refused l g (Calls.remove w hash key) {rest = []} d e says_map refl refl
 

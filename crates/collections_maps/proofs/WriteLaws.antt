@@ -1,6 +1,8 @@
 -- A map's record and its cells, written. Assumes nothing.
 use Prim.Native.Nat.{ℕ, ◌+◌, ◌-◌, ◌*◌, ◌≤◌, ◌<◌}
-use mathlib.Core.Path.{◌≡◌, ap, ◌∙◌}
+use mathlib.Core.Path.{◌≡◌, refl, ap, ◌∙◌}
+use mathlib.Core.Bool.{Bool, true, false}
+use mir.Val.{bool_byte}
 use mathlib.Core.List.{List}
 use lib.ListN.{length}
 use borrow.Rule.Slice.PartMut.{mid_of, put_mid}
@@ -21,6 +23,11 @@ use Rattle.collections_growth.proofs.RegionLaws.{put-own, put-region, region-par
 
 abbrev scalars_with : MapScalars → ℕ → ℕ → ℕ → MapStore → MapScalars
 scalars_with x hashed known noted s = record { keys = x.keys; values = x.values; hashed = hashed; known = known; noted = noted; next = s.fresh; epoch = s.epoch; live = s.live }
+
+-- a flag as a word
+pub flag_word : (b : Bool) → bool_byte b ≡ flag_of b
+flag_word true = refl
+flag_word false = refl
 
 pub map-written : {slots scalars slots' scalars' : List ℕ} {i c d e : ℕ} {h : Header} {x : MapScalars} {y : Scalars} {s : MapStore} → i * SLOT_WORDS + SLOT_WORDS ≤ length slots → i * SLOT_WORDS + SLOT_WORDS ≤ length scalars →
     h ≡ header_at slots i → x ≡ map_part (scalars_at scalars i) → c ≡ flag_of s.hashed → d ≡ flag_of (is_some s.noted) → e ≡ noted_bits s.noted → noted_from (flag_of (is_some s.noted)) (noted_bits s.noted) ≡ s.noted → s.epoch < 4294967296 →

@@ -4,8 +4,7 @@ use Rattle.heap_slots.specs.Header.{header_at, scalars_at}
 use Rattle.heap_slots.specs.Kinds.{MAP}
 use Rattle.heap_slots.specs.Scalars.{map_part}
 use Rattle.heap_slots.specs.declared.Header.{Header}
-use Rattle.heap_cells.specs.Regions.{Grown, region_of}
-use Rattle.heap_cells.specs.declared.Top.{Top}
+use Rattle.heap_cells.specs.Regions.{region_of}
 use Rattle.history.proofs.Lift.{Seen}
 use Rattle.layout.specs.Layout.{Layout, is_traced}
 use Rattle.map_store.specs.Store as Maps
@@ -21,15 +20,15 @@ use Rattle.model.specs.Rules.{insert_room, map_room, on_map, remove_at_room}
 use Rattle.model.specs.Terms.{a_map, charging, growth, spent, terms, uncharged}
 use Rattle.heap.specs.Kinds.{content_of}
 use Rattle.heap.specs.Kinds as Kinds
-use Rattle.heap.specs.State.{State, model_of, more_of, raw_of}
+use Rattle.heap.specs.State.{State, model_of, more_of, raw_of, with_moved}
 use Rattle.heap.specs.Promise.{Performs}
 use Rattle.heap.proofs.ReachLaws.{Target}
 use Rattle.heap.proofs.StepLaws.{OwnCells}
-use Rattle.collections_growth.specs.Growth.{Lengthening}
+use Rattle.collections_growth.specs.Growth.{Lengthening, Longer}
 use Rattle.collections_growth.specs.Words.{map_from}
 use Rattle.collections_maps.specs.Written.{MapWritten}
-use Rattle.collections_maps.specs.declared.Insertion.{Insertion}
-use Rattle.collections_maps.specs.declared.Removal.{Removal}
+use Rattle.collections_maps.specs.declared.changes.Insertion.{Insertion}
+use Rattle.collections_maps.specs.declared.changes.Removal.{Removal}
 
 -- ---- in the map's cells
 
@@ -99,11 +98,11 @@ pub record Ready (t : State) (i : ℕ) (s : MapStore) (room : Maps.Room) (size :
   pub long : Lengthening t i size
 
 -- from b to a: its region became longer, then the rule was applied, then its record was written
-pub record Rewritten (b : State) (i size : ℕ) (s : MapStore) (rule : Maps.Store → Maps.Store) (room : Maps.Room) (q : Top) (a : State) : Type 0 where
+pub record Rewritten (b : State) (i size : ℕ) (s : MapStore) (rule : Maps.Store → Maps.Store) (room : Maps.Room) (a : State) : Type 0 where
   pub slots : List ℕ
   pub cells : List ℕ
   pub map : MapStore
-  pub grown : Grown b.heap.fresh i size q b.slots b.directory b.cells slots a.directory cells
+  pub longer : Longer b i size (with_moved b a.heap slots a.directory cells)
   pub applied : InRegion rule room (header_at slots i) s cells map a.cells
   pub written : MapWritten slots b.scalars a.slots a.scalars i map
 

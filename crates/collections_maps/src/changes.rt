@@ -12,23 +12,34 @@ ghost use Rattle.heap.specs.Good.{Good};
 ghost use Rattle.heap.specs.Promise.{Performs};
 ghost use Rattle.heap.proofs.ReachLaws.{Target};
 ghost use Rattle.heap.proofs.StepLaws.{OwnCells};
-ghost use Rattle.collections_growth.specs.Growth.{changed_heap};
 ghost use Rattle.collections_maps.specs.Written.{MapWritten, flag_of, noted_bits};
 ghost use Rattle.heap.specs.Kinds.{noted_from};
 ghost use Rattle.collections_maps.specs.Changes.{Inserting, Removing, RemovingKey, InRegion, IsMap, InsertAsks, Inserts, Ready, RemoveAsks, Removes, Rewritten, cells_at, room_after, room_without, room_without_key};
 
-use crate::{Insertion, Removal, readings};
-use collections_growth::{Changed, longer, map_of, region, settle, unchanged, zero_fits};
-use heap::{Done, Heap, Located, Made, Reading, Refusal, Settled, lookup};
+use crate::readings;
+use collections_growth::{longer, map_in, map_of, zero_fits};
+use heap::{Heap, Refusal, lookup};
 use heap_allocation::making;
-use heap_cells::Top;
 use heap_slots::{Header, MapScalars, Scalars, kinds};
-use map_store::{Map, MapStore};
+use map_store::MapStore;
 
-fn flag(b: bool) -> u64
-    ensures { result ≡ flag_of b }
-{
-    if b { 1 } else { 0 }
+// What an insertion into a map asks: the bytes that it is charged, the cells that the map then has,
+// and how many more these are.
+#[derive(Clone, Copy, Debug, PartialEq, Eq)]
+struct Insertion {
+    map: MapStore,
+    bytes: u64,
+    size: u64,
+    more: u64,
+    traced: bool,
+}
+
+// What a removal from a map asks: the cells that the map then has, and how many more these are.
+#[derive(Clone, Copy, Debug, PartialEq, Eq)]
+struct Removal {
+    map: MapStore,
+    size: u64,
+    more: u64,
 }
 
 // The noted key's word, 0 where there is none.
@@ -49,18 +60,25 @@ fn write_map(slots: &mut [u64], scalars: &mut [u64], i: usize, s: MapStore)
 {
     let h = heap_slots::read_header(slots, i);
     let x: MapScalars = heap_slots::read_part(scalars, i);
-    let mut g = h;
-    g.value = s.capacity as u64;
-    g.mode = s.index as u64;
-    g.len = s.len as u64;
-    heap_slots::write_header(slots, i, g);
-    let mut y = x;
-    y.hashed = flag(s.hashed);
-    y.known = flag(s.noted.is_some());
-    y.noted = noted_word(s.noted);
-    y.next = s.fresh;
-    y.epoch = s.epoch as u64;
-    y.live = s.live as u64;
+    heap_slots::write_header(
+        slots,
+        i,
+        Header {
+            value: s.capacity as u64,
+            mode: s.index as u64,
+            len: s.len as u64,
+            ..h
+        },
+    );
+    let y = MapScalars {
+        hashed: u64::from(s.hashed),
+        known: u64::from(s.noted.is_some()),
+        noted: noted_word(s.noted),
+        next: s.fresh,
+        epoch: u64::from(s.epoch),
+        live: s.live as u64,
+        ..x
+    };
     heap_slots::write_scalars(scalars, i, Scalars::from(y));
 }
 
@@ -128,7 +146,7 @@ fn remove_key_in(
 }
 
 fn insertion_of(
-    heap: Heap,
+    heap: &Heap,
     slots: &[u64],
     scalars: &[u64],
     list: &[u64],
@@ -137,33 +155,27 @@ fn insertion_of(
     i: usize,
     key: u64,
 ) -> Insertion
-    requires good { Good (state heap slots.now scalars.now list.now directory.now cells.now) }
-    requires map { IsMap (state heap slots.now scalars.now list.now directory.now cells.now) i }
-    ensures { InsertAsks (state heap slots.now scalars.now list.now directory.now cells.now) i key result }
+    requires good { Good (state heap.now slots.now scalars.now list.now directory.now cells.now) }
+    requires map { IsMap (state heap.now slots.now scalars.now list.now directory.now cells.now) i }
+    ensures { InsertAsks (state heap.now slots.now scalars.now list.now directory.now cells.now) i key result }
 {
     let h = heap_slots::read_header(slots, i);
     let x: MapScalars = heap_slots::read_part(scalars, i);
-    let map = map_of(h, x);
+    let map = map_in(cells, h, x);
     let t = readings::traced(x.keys);
-    let held = Map {
-        store: map,
-        cells: region(cells, h),
-    };
-    let weights = heap.weights;
-    let bytes = held.growth_bytes(weights.entry, t, key);
-    let size = held.cells_after_insert(t, key) as u64;
+    let size = map.cells_after_insert(t, key) as u64;
     Insertion {
-        map,
-        bytes,
+        map: map.store,
+        bytes: map.growth_bytes(heap.weights.entry, t, key),
         size,
         more: size - h.size,
         traced: t,
     }
 }
 
-// The region of the map s in slot i made `size` cells long, and an entry added; the regions' top afterwards.
+// The region of the map s in slot i made `size` cells long, and an entry added.
 fn insert_grown(
-    heap: Heap,
+    heap: &mut Heap,
     slots: &mut [u64],
     scalars: &mut [u64],
     list: &[u64],
@@ -176,22 +188,21 @@ fn insert_grown(
     key: u64,
     value: u64,
     size: u64,
-) -> Top
-    requires good { Good (state heap slots.old scalars.old list.now directory.old cells.old) }
-    requires ready { Ready (state heap slots.old scalars.old list.now directory.old cells.old) i s (room_after traced key s (cells_at (state heap slots.old scalars.old list.now directory.old cells.old) i)) size }
+)
+    requires good { Good (state heap.old slots.old scalars.old list.now directory.old cells.old) }
+    requires ready { Ready (state heap.old slots.old scalars.old list.now directory.old cells.old) i s (room_after traced key s (cells_at (state heap.old slots.old scalars.old list.now directory.old cells.old) i)) size }
     requires number { s.fresh < 4294967296 }
-    ensures { Rewritten (state heap slots.old scalars.old list.now directory.old cells.old) i size s (Maps.inserted traced hash key value) (room_after traced key s (cells_at (state heap slots.old scalars.old list.now directory.old cells.old) i)) result (state heap slots.new scalars.new list.now directory.new cells.new) }
+    ensures { Rewritten (state heap.old slots.old scalars.old list.now directory.old cells.old) i size s (Maps.inserted traced hash key value) (room_after traced key s (cells_at (state heap.old slots.old scalars.old list.now directory.old cells.old) i)) (state heap.new slots.new scalars.new list.now directory.new cells.new) }
 {
-    let top = longer(heap, slots, scalars, list, directory, cells, i, size);
+    longer(heap, slots, scalars, list, directory, cells, i, size);
     let h = heap_slots::read_header(slots, i);
     let n = insert_in(cells, h, s, traced, hash, key, value);
     write_map(slots, scalars, i, n);
-    top
 }
 
 // An entry added to the map in slot i, whatever is there: 9, 5, 7.
 fn insert_at(
-    heap: Heap,
+    heap: &mut Heap,
     slots: &mut [u64],
     scalars: &mut [u64],
     list: &[u64],
@@ -201,39 +212,29 @@ fn insert_at(
     hash: u64,
     key: u64,
     value: u64,
-) -> Changed
-    requires good { Good (state heap slots.old scalars.old list.now directory.old cells.old) }
-    requires map { IsMap (state heap slots.old scalars.old list.now directory.old cells.old) i }
-    ensures { Inserts (state heap slots.old scalars.old list.now directory.old cells.old) i hash key value (done_is result.done) (state (changed_heap heap result) slots.new scalars.new list.now directory.new cells.new) }
+) -> Result<(), Refusal>
+    requires good { Good (state heap.old slots.old scalars.old list.now directory.old cells.old) }
+    requires map { IsMap (state heap.old slots.old scalars.old list.now directory.old cells.old) i }
+    ensures { Inserts (state heap.old slots.old scalars.old list.now directory.old cells.old) i hash key value (done_is result) (state heap.new slots.new scalars.new list.now directory.new cells.new) }
 {
     let p = insertion_of(heap, slots, scalars, list, directory, cells, i, key);
-    let s = p.map;
-    if 4294967296 <= s.fresh {
-        return unchanged(heap, Done::Refused(Refusal::Spent));
+    if 4294967296 <= p.map.fresh {
+        return Err(Refusal::Spent);
     }
-    let account = heap.account;
-    match account.charge(p.bytes) {
-        Err(_) => unchanged(heap, Done::Refused(Refusal::OverBudget)),
-        Ok(next) => {
-            if (cells.len() as u64) - heap.taken < p.more {
-                return unchanged(heap, Done::Refused(Refusal::NoCells));
-            }
-            let top = insert_grown(
-                heap, slots, scalars, list, directory, cells, i, s, p.traced, hash, key, value,
-                p.size,
-            );
-            Changed {
-                account: next,
-                top,
-                taken: heap.taken + p.more,
-                done: Done::Accepted,
-            }
-        }
+    let account = heap.account.charge(p.bytes)?;
+    if cells.len() as u64 - heap.taken < p.more {
+        return Err(Refusal::NoCells);
     }
+    insert_grown(
+        heap, slots, scalars, list, directory, cells, i, p.map, p.traced, hash, key, value, p.size,
+    );
+    heap.account = account;
+    heap.taken += p.more;
+    Ok(())
 }
 
 fn removal_of(
-    heap: Heap,
+    heap: &Heap,
     slots: &[u64],
     scalars: &[u64],
     list: &[u64],
@@ -241,28 +242,24 @@ fn removal_of(
     cells: &[u64],
     i: usize,
 ) -> Removal
-    requires good { Good (state heap slots.now scalars.now list.now directory.now cells.now) }
-    requires map { IsMap (state heap slots.now scalars.now list.now directory.now cells.now) i }
-    ensures { RemoveAsks (state heap slots.now scalars.now list.now directory.now cells.now) i result }
+    requires good { Good (state heap.now slots.now scalars.now list.now directory.now cells.now) }
+    requires map { IsMap (state heap.now slots.now scalars.now list.now directory.now cells.now) i }
+    ensures { RemoveAsks (state heap.now slots.now scalars.now list.now directory.now cells.now) i result }
 {
     let h = heap_slots::read_header(slots, i);
     let x: MapScalars = heap_slots::read_part(scalars, i);
-    let map = map_of(h, x);
-    let held = Map {
-        store: map,
-        cells: region(cells, h),
-    };
-    let size = held.cells_after_remove() as u64;
+    let map = map_in(cells, h, x);
+    let size = map.cells_after_remove() as u64;
     Removal {
-        map,
+        map: map.store,
         size,
         more: size - h.size,
     }
 }
 
-// The region of the map s in slot i made `size` cells long, and an entry removed; the regions' top afterwards.
+// The region of the map s in slot i made `size` cells long, and an entry removed.
 fn remove_grown(
-    heap: Heap,
+    heap: &mut Heap,
     slots: &mut [u64],
     scalars: &mut [u64],
     list: &[u64],
@@ -272,21 +269,20 @@ fn remove_grown(
     s: MapStore,
     pos: usize,
     size: u64,
-) -> Top
-    requires good { Good (state heap slots.old scalars.old list.now directory.old cells.old) }
-    requires ready { Ready (state heap slots.old scalars.old list.now directory.old cells.old) i s (room_without s (cells_at (state heap slots.old scalars.old list.now directory.old cells.old) i)) size }
-    ensures { Rewritten (state heap slots.old scalars.old list.now directory.old cells.old) i size s (Maps.removed_at pos) (room_without s (cells_at (state heap slots.old scalars.old list.now directory.old cells.old) i)) result (state heap slots.new scalars.new list.now directory.new cells.new) }
+)
+    requires good { Good (state heap.old slots.old scalars.old list.now directory.old cells.old) }
+    requires ready { Ready (state heap.old slots.old scalars.old list.now directory.old cells.old) i s (room_without s (cells_at (state heap.old slots.old scalars.old list.now directory.old cells.old) i)) size }
+    ensures { Rewritten (state heap.old slots.old scalars.old list.now directory.old cells.old) i size s (Maps.removed_at pos) (room_without s (cells_at (state heap.old slots.old scalars.old list.now directory.old cells.old) i)) (state heap.new slots.new scalars.new list.now directory.new cells.new) }
 {
-    let top = longer(heap, slots, scalars, list, directory, cells, i, size);
+    longer(heap, slots, scalars, list, directory, cells, i, size);
     let h = heap_slots::read_header(slots, i);
     let n = remove_in(cells, h, s, pos);
     write_map(slots, scalars, i, n);
-    top
 }
 
 // The entry at a position of the map in slot i removed: 7, where the map becomes hashed.
 fn remove_place(
-    heap: Heap,
+    heap: &mut Heap,
     slots: &mut [u64],
     scalars: &mut [u64],
     list: &[u64],
@@ -294,31 +290,25 @@ fn remove_place(
     cells: &mut [u64],
     i: usize,
     pos: usize,
-) -> Changed
-    requires good { Good (state heap slots.old scalars.old list.now directory.old cells.old) }
-    requires map { IsMap (state heap slots.old scalars.old list.now directory.old cells.old) i }
-    ensures { Removes (state heap slots.old scalars.old list.now directory.old cells.old) i pos (done_is result.done) (state (changed_heap heap result) slots.new scalars.new list.now directory.new cells.new) }
+) -> Result<(), Refusal>
+    requires good { Good (state heap.old slots.old scalars.old list.now directory.old cells.old) }
+    requires map { IsMap (state heap.old slots.old scalars.old list.now directory.old cells.old) i }
+    ensures { Removes (state heap.old slots.old scalars.old list.now directory.old cells.old) i pos (done_is result) (state heap.new slots.new scalars.new list.now directory.new cells.new) }
 {
     let p = removal_of(heap, slots, scalars, list, directory, cells, i);
-    if (cells.len() as u64) - heap.taken < p.more {
-        return unchanged(heap, Done::Refused(Refusal::NoCells));
+    if cells.len() as u64 - heap.taken < p.more {
+        return Err(Refusal::NoCells);
     }
-    let s = p.map;
-    let top = remove_grown(
-        heap, slots, scalars, list, directory, cells, i, s, pos, p.size,
+    remove_grown(
+        heap, slots, scalars, list, directory, cells, i, p.map, pos, p.size,
     );
-    let account = heap.account;
-    Changed {
-        account,
-        top,
-        taken: heap.taken + p.more,
-        done: Done::Accepted,
-    }
+    heap.taken += p.more;
+    Ok(())
 }
 
 // The value of the entry at a position; outside nothing changes.
 pub fn set_value(
-    heap: Heap,
+    heap: &Heap,
     slots: &[u64],
     scalars: &[u64],
     list: &[u64],
@@ -327,24 +317,20 @@ pub fn set_value(
     w: u64,
     pos: u64,
     v: u64,
-) -> Done
-    requires { Good (state heap slots.now scalars.now list.now directory.now cells.old) }
-    ensures { Performs (Calls.set_value w pos v) (state heap slots.now scalars.now list.now directory.now cells.old) (done_is result) (state heap slots.now scalars.now list.now directory.now cells.new) }
+) -> Result<(), Refusal>
+    requires { Good (state heap.now slots.now scalars.now list.now directory.now cells.old) }
+    ensures { Performs (Calls.set_value w pos v) (state heap.now slots.now scalars.now list.now directory.now cells.old) (done_is result) (state heap.now slots.now scalars.now list.now directory.now cells.new) }
 {
-    match lookup::locate(slots, heap.fresh, w, kinds::MAP) {
-        Located::Refused(q) => Done::Refused(q),
-        Located::At(i) => {
-            let h = heap_slots::read_header(slots, i);
-            let x: MapScalars = heap_slots::read_part(scalars, i);
-            set_value_in(cells, h, map_of(h, x), pos as usize, v);
-            Done::Accepted
-        }
-    }
+    let i = lookup::locate(slots, heap.fresh, w, kinds::MAP)?;
+    let h = heap_slots::read_header(slots, i);
+    let x: MapScalars = heap_slots::read_part(scalars, i);
+    set_value_in(cells, h, map_of(h, x), pos as usize, v);
+    Ok(())
 }
 
 // The integer key k was added.
 pub fn note(
-    heap: Heap,
+    heap: &Heap,
     slots: &mut [u64],
     scalars: &mut [u64],
     list: &[u64],
@@ -352,49 +338,22 @@ pub fn note(
     cells: &[u64],
     w: u64,
     k: i64,
-) -> Done
-    requires { Good (state heap slots.old scalars.old list.now directory.now cells.now) }
-    ensures { Performs (Calls.note w k) (state heap slots.old scalars.old list.now directory.now cells.now) (done_is result) (state heap slots.new scalars.new list.now directory.now cells.now) }
+) -> Result<(), Refusal>
+    requires { Good (state heap.now slots.old scalars.old list.now directory.now cells.now) }
+    ensures { Performs (Calls.note w k) (state heap.now slots.old scalars.old list.now directory.now cells.now) (done_is result) (state heap.now slots.new scalars.new list.now directory.now cells.now) }
 {
-    match lookup::locate(slots, heap.fresh, w, kinds::MAP) {
-        Located::Refused(q) => Done::Refused(q),
-        Located::At(i) => {
-            let h = heap_slots::read_header(slots, i);
-            let x: MapScalars = heap_slots::read_part(scalars, i);
-            let mut s = map_of(h, x);
-            s.note_int_key(k);
-            write_map(slots, scalars, i, s);
-            Done::Accepted
-        }
-    }
-}
-
-fn insert_entry_change(
-    heap: Heap,
-    slots: &mut [u64],
-    scalars: &mut [u64],
-    list: &[u64],
-    directory: &mut [u64],
-    cells: &mut [u64],
-    w: u64,
-    hash: u64,
-    key: u64,
-    value: u64,
-) -> Changed
-    requires { Good (state heap slots.old scalars.old list.now directory.old cells.old) }
-    ensures { Performs (Calls.insert_entry w hash key value) (state heap slots.old scalars.old list.now directory.old cells.old) (done_is result.done) (state (changed_heap heap result) slots.new scalars.new list.now directory.new cells.new) }
-{
-    match lookup::locate(slots, heap.fresh, w, kinds::MAP) {
-        Located::Refused(q) => unchanged(heap, Done::Refused(q)),
-        Located::At(i) => insert_at(
-            heap, slots, scalars, list, directory, cells, i, hash, key, value,
-        ),
-    }
+    let i = lookup::locate(slots, heap.fresh, w, kinds::MAP)?;
+    let h = heap_slots::read_header(slots, i);
+    let x: MapScalars = heap_slots::read_part(scalars, i);
+    let mut s = map_of(h, x);
+    s.note_int_key(k);
+    write_map(slots, scalars, i, s);
+    Ok(())
 }
 
 // An entry added to a map, whatever is there.
 pub fn insert_entry(
-    heap: Heap,
+    heap: &mut Heap,
     slots: &mut [u64],
     scalars: &mut [u64],
     list: &[u64],
@@ -404,19 +363,19 @@ pub fn insert_entry(
     hash: u64,
     key: u64,
     value: u64,
-) -> Settled
-    requires { Good (state heap slots.old scalars.old list.now directory.old cells.old) }
-    ensures { Performs (Calls.insert_entry w hash key value) (state heap slots.old scalars.old list.now directory.old cells.old) (done_is result.done) (state result.heap slots.new scalars.new list.now directory.new cells.new) }
+) -> Result<(), Refusal>
+    requires { Good (state heap.old slots.old scalars.old list.now directory.old cells.old) }
+    ensures { Performs (Calls.insert_entry w hash key value) (state heap.old slots.old scalars.old list.now directory.old cells.old) (done_is result) (state heap.new slots.new scalars.new list.now directory.new cells.new) }
 {
-    let c = insert_entry_change(
-        heap, slots, scalars, list, directory, cells, w, hash, key, value,
-    );
-    settle(heap, c)
+    let i = lookup::locate(slots, heap.fresh, w, kinds::MAP)?;
+    insert_at(
+        heap, slots, scalars, list, directory, cells, i, hash, key, value,
+    )
 }
 
 // The value of a key in the map that w reaches, in slot i.
 fn put_at(
-    heap: Heap,
+    heap: &mut Heap,
     slots: &mut [u64],
     scalars: &mut [u64],
     list: &[u64],
@@ -427,60 +386,32 @@ fn put_at(
     hash: u64,
     key: u64,
     value: u64,
-) -> Changed
-    requires good { Good (state heap slots.old scalars.old list.now directory.old cells.old) }
-    requires map { Target (state heap slots.old scalars.old list.now directory.old cells.old) w i MAP }
-    ensures { Performs (Calls.put w hash key value) (state heap slots.old scalars.old list.now directory.old cells.old) (done_is result.done) (state (changed_heap heap result) slots.new scalars.new list.now directory.new cells.new) }
+) -> Result<(), Refusal>
+    requires good { Good (state heap.old slots.old scalars.old list.now directory.old cells.old) }
+    requires map { Target (state heap.old slots.old scalars.old list.now directory.old cells.old) w i MAP }
+    ensures { Performs (Calls.put w hash key value) (state heap.old slots.old scalars.old list.now directory.old cells.old) (done_is result) (state heap.new slots.new scalars.new list.now directory.new cells.new) }
 {
     let h = heap_slots::read_header(slots, i);
     let x: MapScalars = heap_slots::read_part(scalars, i);
-    let s = map_of(h, x);
-    let map = Map {
-        store: s,
-        cells: region(cells, h),
-    };
+    let map = map_in(cells, h, x);
+    let s = map.store;
     match map.find(readings::traced(x.keys), hash, key) {
         None => insert_at(
             heap, slots, scalars, list, directory, cells, i, hash, key, value,
         ),
         Some(pos) => {
-            let account = heap.account;
-            let fits = zero_fits(account);
-            if !fits {
-                return unchanged(heap, Done::Refused(Refusal::OverBudget));
+            if !zero_fits(heap.account) {
+                return Err(Refusal::OverBudget);
             }
             set_value_in(cells, h, s, pos, value);
-            unchanged(heap, Done::Accepted)
+            Ok(())
         }
-    }
-}
-
-fn put_change(
-    heap: Heap,
-    slots: &mut [u64],
-    scalars: &mut [u64],
-    list: &[u64],
-    directory: &mut [u64],
-    cells: &mut [u64],
-    w: u64,
-    hash: u64,
-    key: u64,
-    value: u64,
-) -> Changed
-    requires { Good (state heap slots.old scalars.old list.now directory.old cells.old) }
-    ensures { Performs (Calls.put w hash key value) (state heap slots.old scalars.old list.now directory.old cells.old) (done_is result.done) (state (changed_heap heap result) slots.new scalars.new list.now directory.new cells.new) }
-{
-    match lookup::locate(slots, heap.fresh, w, kinds::MAP) {
-        Located::Refused(q) => unchanged(heap, Done::Refused(q)),
-        Located::At(i) => put_at(
-            heap, slots, scalars, list, directory, cells, w, i, hash, key, value,
-        ),
     }
 }
 
 // The value of a key: overwritten where the key is found, else an entry is added.
 pub fn put(
-    heap: Heap,
+    heap: &mut Heap,
     slots: &mut [u64],
     scalars: &mut [u64],
     list: &[u64],
@@ -490,47 +421,19 @@ pub fn put(
     hash: u64,
     key: u64,
     value: u64,
-) -> Settled
-    requires { Good (state heap slots.old scalars.old list.now directory.old cells.old) }
-    ensures { Performs (Calls.put w hash key value) (state heap slots.old scalars.old list.now directory.old cells.old) (done_is result.done) (state result.heap slots.new scalars.new list.now directory.new cells.new) }
+) -> Result<(), Refusal>
+    requires { Good (state heap.old slots.old scalars.old list.now directory.old cells.old) }
+    ensures { Performs (Calls.put w hash key value) (state heap.old slots.old scalars.old list.now directory.old cells.old) (done_is result) (state heap.new slots.new scalars.new list.now directory.new cells.new) }
 {
-    let c = put_change(
-        heap, slots, scalars, list, directory, cells, w, hash, key, value,
-    );
-    settle(heap, c)
-}
-
-fn remove_at_change(
-    heap: Heap,
-    slots: &mut [u64],
-    scalars: &mut [u64],
-    list: &[u64],
-    directory: &mut [u64],
-    cells: &mut [u64],
-    w: u64,
-    pos: u64,
-) -> Changed
-    requires { Good (state heap slots.old scalars.old list.now directory.old cells.old) }
-    ensures { Performs (Calls.remove_at w pos) (state heap slots.old scalars.old list.now directory.old cells.old) (done_is result.done) (state (changed_heap heap result) slots.new scalars.new list.now directory.new cells.new) }
-{
-    match lookup::locate(slots, heap.fresh, w, kinds::MAP) {
-        Located::Refused(q) => unchanged(heap, Done::Refused(q)),
-        Located::At(i) => remove_place(
-            heap,
-            slots,
-            scalars,
-            list,
-            directory,
-            cells,
-            i,
-            pos as usize,
-        ),
-    }
+    let i = lookup::locate(slots, heap.fresh, w, kinds::MAP)?;
+    put_at(
+        heap, slots, scalars, list, directory, cells, w, i, hash, key, value,
+    )
 }
 
 // The entry at a position removed. A packed map becomes hashed, also where no live entry is there.
 pub fn remove_at(
-    heap: Heap,
+    heap: &mut Heap,
     slots: &mut [u64],
     scalars: &mut [u64],
     list: &[u64],
@@ -538,17 +441,26 @@ pub fn remove_at(
     cells: &mut [u64],
     w: u64,
     pos: u64,
-) -> Settled
-    requires { Good (state heap slots.old scalars.old list.now directory.old cells.old) }
-    ensures { Performs (Calls.remove_at w pos) (state heap slots.old scalars.old list.now directory.old cells.old) (done_is result.done) (state result.heap slots.new scalars.new list.now directory.new cells.new) }
+) -> Result<(), Refusal>
+    requires { Good (state heap.old slots.old scalars.old list.now directory.old cells.old) }
+    ensures { Performs (Calls.remove_at w pos) (state heap.old slots.old scalars.old list.now directory.old cells.old) (done_is result) (state heap.new slots.new scalars.new list.now directory.new cells.new) }
 {
-    let c = remove_at_change(heap, slots, scalars, list, directory, cells, w, pos);
-    settle(heap, c)
+    let i = lookup::locate(slots, heap.fresh, w, kinds::MAP)?;
+    remove_place(
+        heap,
+        slots,
+        scalars,
+        list,
+        directory,
+        cells,
+        i,
+        pos as usize,
+    )
 }
 
 // The entry of a key removed from the map that w reaches, in slot i.
 fn remove_found(
-    heap: Heap,
+    heap: &mut Heap,
     slots: &mut [u64],
     scalars: &mut [u64],
     list: &[u64],
@@ -558,10 +470,10 @@ fn remove_found(
     i: usize,
     hash: u64,
     key: u64,
-) -> Changed
-    requires good { Good (state heap slots.old scalars.old list.now directory.old cells.old) }
-    requires map { Target (state heap slots.old scalars.old list.now directory.old cells.old) w i MAP }
-    ensures { Performs (Calls.remove w hash key) (state heap slots.old scalars.old list.now directory.old cells.old) (done_is result.done) (state (changed_heap heap result) slots.new scalars.new list.now directory.new cells.new) }
+) -> Result<(), Refusal>
+    requires good { Good (state heap.old slots.old scalars.old list.now directory.old cells.old) }
+    requires map { Target (state heap.old slots.old scalars.old list.now directory.old cells.old) w i MAP }
+    ensures { Performs (Calls.remove w hash key) (state heap.old slots.old scalars.old list.now directory.old cells.old) (done_is result) (state heap.new slots.new scalars.new list.now directory.new cells.new) }
 {
     let h = heap_slots::read_header(slots, i);
     let x: MapScalars = heap_slots::read_part(scalars, i);
@@ -570,43 +482,17 @@ fn remove_found(
     if s.hashed {
         let n = remove_key_in(cells, h, s, t, hash, key);
         write_map(slots, scalars, i, n);
-        return unchanged(heap, Done::Accepted);
+        return Ok(());
     }
-    let map = Map {
-        store: s,
-        cells: region(cells, h),
-    };
-    match map.find(t, hash, key) {
-        None => unchanged(heap, Done::Accepted),
+    match map_in(cells, h, x).find(t, hash, key) {
+        None => Ok(()),
         Some(pos) => remove_place(heap, slots, scalars, list, directory, cells, i, pos),
-    }
-}
-
-fn remove_change(
-    heap: Heap,
-    slots: &mut [u64],
-    scalars: &mut [u64],
-    list: &[u64],
-    directory: &mut [u64],
-    cells: &mut [u64],
-    w: u64,
-    hash: u64,
-    key: u64,
-) -> Changed
-    requires { Good (state heap slots.old scalars.old list.now directory.old cells.old) }
-    ensures { Performs (Calls.remove w hash key) (state heap slots.old scalars.old list.now directory.old cells.old) (done_is result.done) (state (changed_heap heap result) slots.new scalars.new list.now directory.new cells.new) }
-{
-    match lookup::locate(slots, heap.fresh, w, kinds::MAP) {
-        Located::Refused(q) => unchanged(heap, Done::Refused(q)),
-        Located::At(i) => remove_found(
-            heap, slots, scalars, list, directory, cells, w, i, hash, key,
-        ),
     }
 }
 
 // The entry of a key removed; an absent key's removal changes nothing, and a hashed map's takes no cells.
 pub fn remove(
-    heap: Heap,
+    heap: &mut Heap,
     slots: &mut [u64],
     scalars: &mut [u64],
     list: &[u64],
@@ -615,17 +501,19 @@ pub fn remove(
     w: u64,
     hash: u64,
     key: u64,
-) -> Settled
-    requires { Good (state heap slots.old scalars.old list.now directory.old cells.old) }
-    ensures { Performs (Calls.remove w hash key) (state heap slots.old scalars.old list.now directory.old cells.old) (done_is result.done) (state result.heap slots.new scalars.new list.now directory.new cells.new) }
+) -> Result<(), Refusal>
+    requires { Good (state heap.old slots.old scalars.old list.now directory.old cells.old) }
+    ensures { Performs (Calls.remove w hash key) (state heap.old slots.old scalars.old list.now directory.old cells.old) (done_is result) (state heap.new slots.new scalars.new list.now directory.new cells.new) }
 {
-    let c = remove_change(heap, slots, scalars, list, directory, cells, w, hash, key);
-    settle(heap, c)
+    let i = lookup::locate(slots, heap.fresh, w, kinds::MAP)?;
+    remove_found(
+        heap, slots, scalars, list, directory, cells, w, i, hash, key,
+    )
 }
 
 // A map without entries.
 pub fn new_map(
-    heap: Heap,
+    heap: &mut Heap,
     slots: &mut [u64],
     scalars: &mut [u64],
     list: &[u64],
@@ -633,23 +521,14 @@ pub fn new_map(
     cells: &[u64],
     keys: u64,
     values: u64,
-) -> Made
-    requires { Good (state heap slots.old scalars.old list.now directory.now cells.now) }
-    ensures { Performs (Calls.new_map keys values) (state heap slots.old scalars.old list.now directory.now cells.now) (made_is result.answer) (state result.heap slots.new scalars.new list.now directory.now cells.now) }
+) -> Result<u64, Refusal>
+    requires { Good (state heap.old slots.old scalars.old list.now directory.now cells.now) }
+    ensures { Performs (Calls.new_map keys values) (state heap.old slots.old scalars.old list.now directory.now cells.now) (made_is result) (state heap.new slots.new scalars.new list.now directory.now cells.now) }
 {
-    if 2 < keys {
-        return Made {
-            heap,
-            answer: Reading::Refused(Refusal::BadType),
-        };
+    if 2 < keys || 2 < values {
+        return Err(Refusal::BadType);
     }
-    if 2 < values {
-        return Made {
-            heap,
-            answer: Reading::Refused(Refusal::BadType),
-        };
-    }
-    let weights = heap.weights;
+    let bytes = heap.weights.slot;
     let h = Header {
         kind: kinds::MAP,
         ..Header::EMPTY
@@ -664,15 +543,5 @@ pub fn new_map(
         epoch: 0,
         live: 0,
     });
-    making::new_with_scalars(
-        heap,
-        slots,
-        scalars,
-        list,
-        directory,
-        cells,
-        h,
-        x,
-        weights.slot,
-    )
+    making::new_with_scalars(heap, slots, scalars, list, directory, cells, h, x, bytes)
 }

@@ -36,7 +36,6 @@ use Rattle.heap.proofs.DoesLaws.{does-own}
 use Rattle.collector_finalizing.specs.Dropped.{ListAnswer, dropped_words, marks_kept, finalized_in}
 use Rattle.collector_finalizing.proofs.Found.{dropped-finalizable}
 use Rattle.collector.specs.declared.Tally.{Tally}
-use Rattle.collector.specs.declared.Collection.TheVariants as C
 use Rattle.collector.specs.Answer.{collection_is}
 use Rattle.collector.specs.Sweep.{Weighable, Swept, Sweepable, heap_after, state_after}
 use Rattle.model.specs.declared.Weights.{Weights}
@@ -52,7 +51,7 @@ module _ (l : Layout) (t : State) (g : Good t) (roots places : List ℕ) where
   listed = dropped_words l t.slots t.scalars t.cells t.heap.fresh roots
 
   -- 8: "lent list shorter than F"
-  pub does-short : length places < length listed → Does l call t (collection_is (C.Refused No.TooShort) places) t
+  pub does-short : length places < length listed → Does l call t (collection_is (Err No.TooShort) places) t
   unfolding collection_is terms first unless number_of
   does-short h =
       does-own l g call No.TooShort refl
@@ -69,7 +68,7 @@ module _ (l : Layout) (t : State) (g : Good t) (roots places : List ℕ) where
         rw (le-leb (length (finalizable (view_of (model_of l t)) roots)) (length places) e))
         refl refl (no-cells-added (model_of l t) 0 refl)
 
-    pub does-collected : Does l call t (collection_is (C.Done y.freed k) p') (state_after t s' x' l' y)
+    pub does-collected : Does l call t (collection_is (Ok record { freed = y.freed; listed = k }) p') (state_after t s' x' l' y)
     unfolding collection_is terms effect seen model_of
     does-collected =
         let q = dropped-finalizable l t g roots in
@@ -159,7 +158,7 @@ module _ {n : ℕ} {w : Weights} {free : ℕ} {f kept : List ℕ} {b a : Buffers
 
 module _ (l : Layout) (h : Heap) (s x li d c : List ℕ) (g : Good (state h s x li d c)) (roots p m o : List ℕ) {s' x' li' m' o' p' : List ℕ} where
   pub promise_short : Refuses (dropped_words l s x c h.fresh roots) (buffers s x li (take h.fresh m) o p) (buffers s' x' li' m' o' p') →
-      Does l (Calls.collect roots p) (state h s x li d c) (collection_is (C.Refused No.TooShort) p') (state h s' x' li' d c)
+      Does l (Calls.collect roots p) (state h s x li d c) (collection_is (Err No.TooShort) p') (state h s' x' li' d c)
   promise_short q =
       let es : s' ≡ s = ap (λ (y : Buffers). y.slots) q.same in
       let ex : x' ≡ x = ap (λ (y : Buffers). y.scalars) q.same in
@@ -168,6 +167,6 @@ module _ (l : Layout) (h : Heap) (s x li d c : List ℕ) (g : Good (state h s x 
       rw (es, ex, el, ep) (does-short l (state h s x li d c) g roots p q.short)
 
   pub promise_swept : {y : Tally} {k : ℕ} {h' : Heap} → Collects h.fresh h.weights h.free (dropped_words l s x c h.fresh roots) (marks_kept l s x c h.fresh roots) (buffers s x li (take h.fresh m) o p) (buffers s' x' li' m' o' p') y k → h' ≡ heap_after h y →
-      Does l (Calls.collect roots p) (state h s x li d c) (collection_is (C.Done y.freed k) p') (state h' s' x' li' d c)
+      Does l (Calls.collect roots p) (state h s x li d c) (collection_is (Ok record { freed = y.freed; listed = k }) p') (state h' s' x' li' d c)
   promise_swept q e =
       rw e (does-collected l (state h s x li d c) g roots p q.count q.fits q.places q.scalars q.swept)

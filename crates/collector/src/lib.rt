@@ -21,11 +21,11 @@ use heap_slots::{CoroutineScalars, Header, kinds};
 use layout::ReadLayout;
 use model::Weights;
 
-// Objects freed and coroutines listed, or the refusal.
-#[derive(Clone, Copy)]
-pub enum Collection {
-    Done(u64, u64),
-    Refused(Refusal),
+// Objects freed and coroutines listed.
+#[derive(Clone, Copy, Debug, PartialEq, Eq)]
+pub struct Collection {
+    pub freed: u64,
+    pub listed: u64,
 }
 
 // The free list's length, the slots freed, and of what is kept the weight, the cells, the number and
@@ -189,17 +189,11 @@ fn collect_slots(
     Ok(Ending { tally, listed })
 }
 
-#[derive(Clone, Copy)]
-pub struct Collected {
-    pub heap: Heap,
-    pub answer: Collection,
-}
-
 // A collection: R is what the roots reach, F the waiting coroutines outside R, and what R and F
 // reach is kept. F is finalized and listed in the first places; the other objects are freed. The
 // marks and the order are at rest before and after; a refusal leaves every buffer as it was.
 pub fn collect(
-    heap: Heap,
+    heap: &mut Heap,
     slots: &mut [u64],
     scalars: &mut [u64],
     list: &mut [u64],
@@ -210,18 +204,18 @@ pub fn collect(
     order: &mut [u32],
     roots: &[u64],
     places: &mut [u64],
-) -> Collected
-    requires good { Good (state heap slots.old scalars.old list.old directory.now cells.now) }
-    requires rested { Rested heap.size marks.old order.old }
+) -> Result<Collection, Refusal>
+    requires good { Good (state heap.old slots.old scalars.old list.old directory.now cells.now) }
+    requires rested { Rested heap.old.size marks.old order.old }
     ensures does { Does (layout_of layout.entry.bytes.now) (Calls.collect roots.now places.old)
-        (state heap slots.old scalars.old list.old directory.now cells.now)
-        (collection_is result.answer places.new)
-        (state result.heap slots.new scalars.new list.new directory.now cells.now) }
+        (state heap.old slots.old scalars.old list.old directory.now cells.now)
+        (collection_is result places.new)
+        (state heap.new slots.new scalars.new list.new directory.now cells.now) }
     ensures marks_unchanged { marks.new ≡ marks.old }
     ensures order_unchanged { order.new ≡ order.old }
 {
     let fresh = heap.fresh as usize;
-    let ending = match collect_slots(
+    let Ending { tally, listed } = collect_slots(
         fresh,
         heap.free,
         heap.coroutines,
@@ -235,17 +229,8 @@ pub fn collect(
         order,
         roots,
         places,
-    ) {
-        Ok(ending) => ending,
-        Err(refusal) => {
-            return Collected {
-                heap,
-                answer: Collection::Refused(refusal),
-            };
-        },
-    };
-    let tally = ending.tally;
-    let swept = Heap {
+    )?;
+    *heap = Heap {
         account: heap.account.after_sweep(tally.weight),
         free: tally.free,
         taken: tally.taken,
@@ -253,10 +238,10 @@ pub fn collect(
         coroutines: tally.coroutines,
         collections: heap.collections.saturating_add(1),
         freed: heap.freed.saturating_add(tally.freed),
-        ..heap
+        ..*heap
     };
-    Collected {
-        heap: swept,
-        answer: Collection::Done(tally.freed, ending.listed as u64),
-    }
+    Ok(Collection {
+        freed: tally.freed,
+        listed: listed as u64,
+    })
 }

@@ -11,9 +11,11 @@ use lib.ListN.{length}
 use Rattle.history.proofs.Facts.{eqb_no, eqb_self}
 use Rattle.model.specs.Calls.{collect, read_string}
 use Rattle.commands.specs.declared.Operands.{Operands}
-use Rattle.commands.specs.Rows.{Act, Lists, Memory, Row, buffer, choose, group_in, has, joined, list_of_places, make, no_act, own, root_list}
+use Rattle.commands.specs.Rows.{Act, Lists, Row, choose, group_in, has, joined, make, no_act}
 use Rattle.commands.specs.Table.{act_in, act_of, change_rows, coroutine_rows, group_of, groups, grow_rows, heap_rows, iterator_rows, lent_rows, list_rows, map_change_rows, map_number_rows, map_rows, memory_of, new_list_rows, new_rows, plain_rows, read_rows, session_rows, store_rows, table, word_rows}
 use Rattle.commands.specs.Promise.{calls_in}
+use Rattle.commands.specs.declared.Memory.{Memory}
+use Rattle.commands.specs.declared.Memory.TheVariants.{Own, Buffer, Places, Roots}
 
 -- ---- a row
 
@@ -118,9 +120,9 @@ module _ {A : Type 0} (f : Row → A) (none : A) (n : ℕ) where
       go true e h = rw (eqb_self k) (choose-left f none n rows (joined gs) e)
       go false e h = rw (eqb_no (group_in (suc k) gs n) k other) (choose_right f none n rows (joined gs) e ∙ h)
 
-memory_group : (n : ℕ) → memory_of n ≡ choose (λ (r : Row). r.memory) own (the_group 1 groups (group_of n)) n
+memory_group : (n : ℕ) → memory_of n ≡ choose (λ (r : Row). r.memory) Own (the_group 1 groups (group_of n)) n
 unfolding memory_of table group_of
-memory_group n = in_group (λ (r : Row). r.memory) own n 1 groups (omega arith)
+memory_group n = in_group (λ (r : Row). r.memory) Own n 1 groups (omega arith)
 
 module _ (n : ℕ) (o : Operands) (t : Lists) where
   pub act_group : act_of n o t ≡ act_in (the_group 1 groups (group_of n)) n o t
@@ -170,17 +172,17 @@ group_last n l = omega (arith, group_end 1 groups n (omega arith))
 -- ---- the memory lent to a command
 
 is_own : Memory → Bool
-is_own own = true
-is_own buffer = false
-is_own list_of_places = false
-is_own root_list = false
+is_own Own = true
+is_own Buffer = false
+is_own Places = false
+is_own Roots = false
 
-own_is : (e : Memory) → T (is_own e) → e ≡ own
+own_is : (e : Memory) → T (is_own e) → e ≡ Own
 unfolding is_own
-own_is own t = refl
-own_is buffer t = absurd t
-own_is list_of_places t = absurd t
-own_is root_list t = absurd t
+own_is Own t = refl
+own_is Buffer t = absurd t
+own_is Places t = absurd t
+own_is Roots t = absurd t
 
 own_rows : List Row → Bool
 own_rows [] = true
@@ -191,18 +193,18 @@ own_groups [] = true
 own_groups (rows ∷ gs) = both (own_rows rows) (own_groups gs)
 
 abbrev memory_in : List Row → ℕ → Memory
-memory_in rows n = choose (λ r. r.memory) own rows n
+memory_in rows n = choose (λ r. r.memory) Own rows n
 
-own_rows_lem : (n : ℕ) (rows : List Row) → T (own_rows rows) → memory_in rows n ≡ own
+own_rows_lem : (n : ℕ) (rows : List Row) → T (own_rows rows) → memory_in rows n ≡ Own
 unfolding choose own_rows
 own_rows_lem n [] t = refl
 own_rows_lem n (r ∷ rs) t = cond_same (eqb n r.number) (own_is r.memory (both_left (is_own r.memory) (own_rows rs) t)) (own_rows_lem n rs (both_right (is_own r.memory) (own_rows rs) t))
 
-cond_rows : (b : Bool) (n : ℕ) (xs ys : List Row) → memory_in xs n ≡ own → memory_in ys n ≡ own → memory_in (cond b xs ys) n ≡ own
+cond_rows : (b : Bool) (n : ℕ) (xs ys : List Row) → memory_in xs n ≡ Own → memory_in ys n ≡ Own → memory_in (cond b xs ys) n ≡ Own
 cond_rows true n xs ys p q = p
 cond_rows false n xs ys p q = q
 
-own_group : (n g k : ℕ) (gs : List (List Row)) → T (own_groups gs) → memory_in (the_group k gs g) n ≡ own
+own_group : (n g k : ℕ) (gs : List (List Row)) → T (own_groups gs) → memory_in (the_group k gs g) n ≡ Own
 unfolding choose own_groups the_group
 own_group n g k [] t = refl
 own_group n g k (rows ∷ gs) t =
@@ -220,7 +222,7 @@ owned_group : (g : ℕ) → g ≢ 15 → the_group 1 groups g ≡ the_group 1 ow
 unfolding the_group groups owned_groups
 owned_group g h = rw (eqb_no g 15 h)
 
-pub memory-own : (n : ℕ) → group_of n ≢ 15 → memory_of n ≡ own
+pub memory-own : (n : ℕ) → group_of n ≢ 15 → memory_of n ≡ Own
 memory-own n h = memory_group n ∙ ap (λ (rows : List Row). memory_in rows n) (owned_group (group_of n) h) ∙ own_group n (group_of n) 1 owned_groups owned_all
 
 pub memory-lent : (n : ℕ) → group_of n ≡ 15 → memory_of n ≡ memory_in lent_rows n
@@ -236,10 +238,10 @@ same_or_not a b = go (ℕ_discrete a b)
 
 -- what a command that is lent a list does
 unfoldable pub Lending : Memory → Act → Operands → Lists → Type 0
-Lending own x o t = Unit
-Lending buffer x o t = x ≡ make (read_string o.a t.bytes)
-Lending list_of_places x o t = x ≡ make (collect t.words t.places)
-Lending root_list x o t = x ≡ make (collect t.words t.places)
+Lending Own x o t = Unit
+Lending Buffer x o t = x ≡ make (read_string o.a t.bytes)
+Lending Places x o t = x ≡ make (collect t.words t.places)
+Lending Roots x o t = x ≡ make (collect t.words t.places)
 
 lending_cond : (b : Bool) (d e : Memory) (x y : Act) (o : Operands) (t : Lists) → Lending d x o t → Lending e y o t → Lending (cond b d e) (cond b x y) o t
 lending_cond true d e x y o t p q = p
@@ -256,14 +258,14 @@ lending n o t =
 
 -- ---- the commands that are lent a list
 
-pub memory_0_c : memory_of 0x0C ≡ root_list
+pub memory_0_c : memory_of 0x0C ≡ Roots
 unfolding memory_of table joined choose groups session_rows word_rows plain_rows list_rows coroutine_rows map_rows map_number_rows iterator_rows heap_rows new_rows store_rows grow_rows map_change_rows new_list_rows lent_rows
 memory_0_c = refl
 
-pub memory_0_f : memory_of 0x0F ≡ list_of_places
+pub memory_0_f : memory_of 0x0F ≡ Places
 unfolding memory_of table joined choose groups session_rows word_rows plain_rows list_rows coroutine_rows map_rows map_number_rows iterator_rows heap_rows new_rows store_rows grow_rows map_change_rows new_list_rows lent_rows
 memory_0_f = refl
 
-pub memory_26 : memory_of 0x26 ≡ buffer
+pub memory_26 : memory_of 0x26 ≡ Buffer
 unfolding memory_of table joined choose groups session_rows word_rows plain_rows list_rows coroutine_rows map_rows map_number_rows iterator_rows heap_rows new_rows store_rows grow_rows map_change_rows new_list_rows lent_rows
 memory_26 = refl

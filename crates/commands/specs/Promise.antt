@@ -1,20 +1,19 @@
 -- What a function promises that performs commands: the calls of the command's act, what is shown of them, the state and the lists afterwards.
+use Rattle.std.specs.Prelude.{Option, Some, None}
 use Rattle.std.specs.Prelude.{ℕ, ◌≡◌, List, [], ◌∷◌}
 use Rattle.layout.specs.Layout.{Layout}
 use Rattle.model.specs.Calls.{Call}
 use Rattle.model.specs.Replies.{Lent, no_memory, list, cursor_at}
 use Rattle.model.specs.Model.{Model}
 use Rattle.model.specs.Step.{step}
-use Rattle.model.specs.Demand3.{Seen, seen}
-use Rattle.heap.specs.declared.Heap.{Heap}
+use Rattle.model.specs.Demand3.{seen}
 use Rattle.heap.specs.State.{State, model_of}
 use Rattle.answers.specs.declared.Shown.{Shown}
 use Rattle.answers.specs.Promise.{ShowsCall}
 use Rattle.answers.specs.Shows.{shown_of, shows, with_second}
-use Rattle.commands.specs.declared.Turn.{Turn}
-use Rattle.commands.specs.declared.Performed.{Performed}
-use Rattle.commands.specs.declared.Performed.TheVariants.{Known, Unknown}
-use Rattle.commands.specs.Rows.{Act, Lists, Memory, add_root, buffer, list_of_places, make, make_both, no_act, opens_with, own, root_list}
+use Rattle.commands.specs.Rows.{Act, Lists, add_root, make, make_both, no_act, opens_with}
+use Rattle.commands.specs.declared.Memory.{Memory}
+use Rattle.commands.specs.declared.Memory.TheVariants.{Own, Buffer, Places, Roots}
 
 abbrev pub lists : List ℕ → List ℕ → List ℕ → List ℕ → Lists
 lists words frames bytes places = record { words = words; frames = frames; bytes = bytes; places = places }
@@ -51,39 +50,32 @@ left_in (list ws) old = ws
 left_in (cursor_at c) old = old
 
 unfoldable pub bytes_after : Memory → Lent → List ℕ → List ℕ
-bytes_after own m bytes = bytes
-bytes_after buffer m bytes = left_in m bytes
-bytes_after list_of_places m bytes = bytes
-bytes_after root_list m bytes = bytes
+bytes_after Own m bytes = bytes
+bytes_after Buffer m bytes = left_in m bytes
+bytes_after Places m bytes = bytes
+bytes_after Roots m bytes = bytes
 
 unfoldable pub places_after : Memory → Lent → List ℕ → List ℕ
-places_after own m places = places
-places_after buffer m places = places
-places_after list_of_places m places = left_in m places
-places_after root_list m places = left_in m places
+places_after Own m places = places
+places_after Buffer m places = places
+places_after Places m places = left_in m places
+places_after Roots m places = left_in m places
 
 -- ---- promises
 
 -- the act's calls were made on the state b and left the state a; one that makes no call changes nothing
-pub data ChangedBy (b : State) : Act → Performed → State → Type 0 where
-  unknown_change : {x : Act} → calls_in x ≡ [] → ChangedBy b x Unknown b
-  known_change : {k : Call} {s : Shown} {a : State} → ((l : Layout) → ShowsCall l k b s a) → ChangedBy b (make k) (Known s) a
-  both_change : {k j : Call} {s u : Shown} → ((l : Layout) → ShowsCall l k b s b) → ((l : Layout) → ShowsCall l j b u b) → ChangedBy b (make_both k j) (Known (with_second u.word s)) b
+pub data ChangedBy (b : State) : Act → Option Shown → State → Type 0 where
+  unknown_change : {x : Act} → calls_in x ≡ [] → ChangedBy b x None b
+  known_change : {k : Call} {s : Shown} {a : State} → ((l : Layout) → ShowsCall l k b s a) → ChangedBy b (make k) (Some s) a
+  both_change : {k j : Call} {s u : Shown} → ((l : Layout) → ShowsCall l k b s b) → ((l : Layout) → ShowsCall l j b u b) → ChangedBy b (make_both k j) (Some (with_second u.word s)) b
 
 -- readings leave the record and every buffer as they were
-abbrev pub ReadBy : State → Act → Performed → Type 0
+abbrev pub ReadBy : State → Act → Option Shown → Type 0
 ReadBy t x r = ChangedBy t x r t
 
 -- the same for a command with this memory lent to it: bytes and places
-pub data CommandedBy (l : Layout) (e : Memory) (b : State) (bytes places : List ℕ) : Act → Performed → State → List ℕ → List ℕ → Type 0 where
-  unknown_command : {x : Act} → calls_in x ≡ [] → CommandedBy l e b bytes places x Unknown b bytes places
+pub data CommandedBy (l : Layout) (e : Memory) (b : State) (bytes places : List ℕ) : Act → Option Shown → State → List ℕ → List ℕ → Type 0 where
+  unknown_command : {x : Act} → calls_in x ≡ [] → CommandedBy l e b bytes places x None b bytes places
   known_command : {k : Call} {s : Shown} {a : State} {bytes' places' : List ℕ} → ShowsCall l k b s a → bytes' ≡ bytes_after e (step (model_of l b) k).lent bytes → places' ≡ places_after e (step (model_of l b) k).lent places →
-      CommandedBy l e b bytes places (make k) (Known s) a bytes' places'
-  both_command : {k j : Call} {s u : Shown} → ShowsCall l k b s b → ShowsCall l j b u b → CommandedBy l e b bytes places (make_both k j) (Known (with_second u.word s)) b bytes places
-
--- what a call that is known shows
-abbrev pub KnownFrom : Seen → Performed → Type 0
-KnownFrom o r = r ≡ Known (shown_of o)
-
-abbrev pub turned : Heap → Seen → Turn
-turned h o = record { heap = h; performed = Known (shown_of o) }
+      CommandedBy l e b bytes places (make k) (Some s) a bytes' places'
+  both_command : {k j : Call} {s u : Shown} → ShowsCall l k b s b → ShowsCall l j b u b → CommandedBy l e b bytes places (make_both k j) (Some (with_second u.word s)) b bytes places

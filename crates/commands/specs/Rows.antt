@@ -3,6 +3,8 @@ use Rattle.std.specs.Prelude.{ℕ, suc, ◌+◌, ◌*◌, Bool, false, cond, ◌
 use Rattle.model.specs.Calls.{Call}
 use Rattle.model.specs.Opening.{Opening}
 use Rattle.commands.specs.declared.Operands.{Operands}
+use Rattle.commands.specs.declared.Form.{Form}
+use Rattle.commands.specs.declared.Memory.{Memory}
 
 -- b one byte, h two, q eight; c a byte 0 to 7, d a byte 0 to 3; W a count and so many words, S a count and so many bytes, F a count and so many
 -- frames of four words
@@ -15,24 +17,6 @@ pub data Field : Type 0 where
   W : Field
   S : Field
   F : Field
-
--- what is shown beside the word: nothing; one number more; an entry's hash, key, sequence number, live; a frame's counter, base, closure;
--- an iterator's cursor, 6, or 7 and yielded yet, last sequence number, epoch; found, and the lent cursor as the call left it
-pub data Form : Type 0 where
-  word_alone : Form
-  second : Form
-  entry_fields : Form
-  frame_fields : Form
-  iterator_cursor : Form
-  lent_cursor : Form
-
--- the lists that a command is given: its own; a buffer of so many bytes as its second number says; a list of so many places as its first number says;
--- the roots given so far, with a place for each slot
-pub data Memory : Type 0 where
-  own : Memory
-  buffer : Memory
-  list_of_places : Memory
-  root_list : Memory
 
 -- words are fields, captures, registers or roots; frames have four words each; bytes are a string's, or the buffer it is read into; places are those
 -- of the list lent to a collection
@@ -98,17 +82,3 @@ field_at n = cond (eqb n 1) b (cond (eqb n 2) h (cond (eqb n 3) q (cond (eqb n 4
 unfoldable pub coded : List Field → ℕ
 coded [] = 0
 coded (f ∷ fs) = field_code f + 16 * coded fs
-
-unfoldable pub form_code : Form → ℕ
-form_code word_alone = 0
-form_code second = 1
-form_code entry_fields = 2
-form_code frame_fields = 3
-form_code iterator_cursor = 4
-form_code lent_cursor = 5
-
-unfoldable pub memory_code : Memory → ℕ
-memory_code own = 0
-memory_code buffer = 1
-memory_code list_of_places = 2
-memory_code root_list = 3

@@ -8,13 +8,14 @@ ghost use Rattle.std.specs.Prelude.{◌≡◌};
 ghost use Rattle.layout.specs.Sections.{layout_of};
 ghost use Rattle.heap.specs.State.{state};
 ghost use Rattle.heap.specs.Good.{Ready};
-ghost use Rattle.commands.specs.Table.{act_of, memory_of, shape_of};
+ghost use Rattle.commands.specs.Table.{act_of, form_at, memory_at, memory_of, shape_of};
 ghost use Rattle.commands.specs.Promise.{CommandedBy, lists};
 
-use heap::Heap;
+use answers::Shown;
+use heap::{Heap, HeapView};
 
 // The numbers among the operands of a command, in their order; what it does not have is 0.
-#[derive(Clone, Copy)]
+#[derive(Clone, Copy, Debug, PartialEq, Eq)]
 pub struct Operands {
     pub a: u64,
     pub b: u64,
@@ -26,28 +27,38 @@ pub struct Operands {
     pub h: u64,
 }
 
-// What came of a command: what its calls show, or that it makes none.
-#[derive(Clone, Copy)]
-pub enum Performed {
-    Known(answers::Shown),
-    Unknown,
+// What is shown beside the word: nothing; one number more; an entry's hash, key, sequence number,
+// live; a frame's counter, base, closure; an iterator's cursor, 6, or 7 and yielded yet, last
+// sequence number, epoch; found, and the lent cursor as the call left it.
+#[derive(Clone, Copy, Debug, PartialEq, Eq)]
+pub enum Form {
+    WordAlone,
+    Second,
+    EntryFields,
+    FrameFields,
+    IteratorCursor,
+    LentCursor,
 }
 
-// The heap's record after a command, and what came of it.
-#[derive(Clone, Copy)]
-pub struct Turn {
-    pub heap: Heap,
-    pub performed: Performed,
+// The lists that a command is given: its own; a buffer of so many bytes as its second number says; a
+// list of so many places as its first number says; the roots given so far, with a place for each
+// slot.
+#[derive(Clone, Copy, Debug, PartialEq, Eq)]
+pub enum Memory {
+    Own,
+    Buffer,
+    Places,
+    Roots,
 }
 
 // The row of a command. Operands, a hexadecimal digit for each, the first lowest: 1 one byte, 2 two, 3
 // eight, 4 a byte up to 7, 5 a byte up to 3, 6 words, 7 bytes, 8 frames; 15: no such command. How the
-// answer is shown, which memory is lent, and the group of commands.
-#[derive(Clone, Copy)]
+// answer is shown, which memory is lent, and the group of commands, counted as in the table.
+#[derive(Clone, Copy, Debug, PartialEq, Eq)]
 pub struct Shape {
     pub fields: u64,
-    pub form: u64,
-    pub memory: u64,
+    pub form: Form,
+    pub memory: Memory,
     pub group: u64,
 }
 
@@ -158,22 +169,49 @@ const ROWS: [u64; 103] = [
     0x02_0_0_000000033,
 ];
 
+// The form of a row's digit, and the memory.
+#[tactic(auto, unfolding(crate::specs::Table::form_at))]
+fn form_at(digit: u64) -> Form
+    ensures { result ≡ form_at digit }
+{
+    match digit {
+        0 => Form::WordAlone,
+        1 => Form::Second,
+        2 => Form::EntryFields,
+        3 => Form::FrameFields,
+        4 => Form::IteratorCursor,
+        _ => Form::LentCursor,
+    }
+}
+
+#[tactic(auto, unfolding(crate::specs::Table::memory_at))]
+fn memory_at(digit: u64) -> Memory
+    ensures { result ≡ memory_at digit }
+{
+    match digit {
+        0 => Memory::Own,
+        1 => Memory::Buffer,
+        2 => Memory::Places,
+        _ => Memory::Roots,
+    }
+}
+
 pub fn shape_of(code: u64) -> Shape
     ensures { result ≡ shape_of code }
 {
     if 102 < code {
         return Shape {
             fields: 15,
-            form: 0,
-            memory: 0,
+            form: Form::WordAlone,
+            memory: Memory::Own,
             group: 0,
         };
     }
     let row = ROWS[code as usize];
     Shape {
         fields: row % 0x10_0000_0000,
-        form: row / 0x10_0000_0000 % 16,
-        memory: row / 0x100_0000_0000 % 16,
+        form: form_at(row / 0x10_0000_0000 % 16),
+        memory: memory_at(row / 0x100_0000_0000 % 16),
         group: row / 0x1000_0000_0000,
     }
 }
@@ -182,7 +220,7 @@ pub fn shape_of(code: u64) -> Shape
 // registers or roots), frames of four words each, bytes (a string's, or the buffer it is read
 // into), and the places of the list lent to a collection.
 pub fn perform(
-    heap: Heap,
+    heap: &mut Heap,
     slots: &mut [u64],
     scalars: &mut [u64],
     list: &mut [u64],
@@ -198,29 +236,34 @@ pub fn perform(
     frames: &[u64],
     bytes: &mut [u8],
     places: &mut [u64],
-) -> Turn
-    requires { Ready (state heap slots.old scalars.old list.old directory.old cells.old) marks.old order.old layout.now table.now }
-    ensures commanded_by { CommandedBy (layout_of layout.now) (memory_of code) (state heap slots.old scalars.old list.old directory.old cells.old) bytes.old places.old (act_of code o (lists words.now frames.now bytes.old places.old)) result.performed (state result.heap slots.new scalars.new list.new directory.new cells.new) bytes.new places.new }
-    ensures ready { Ready (state result.heap slots.new scalars.new list.new directory.new cells.new) marks.new order.new layout.now table.now }
+) -> Option<Shown>
+    requires { Ready (state heap.old slots.old scalars.old list.old directory.old cells.old) marks.old order.old layout.now table.now }
+    ensures commanded_by { CommandedBy (layout_of layout.now) (memory_of code) (state heap.old slots.old scalars.old list.old directory.old cells.old) bytes.old places.old (act_of code o (lists words.now frames.now bytes.old places.old)) result (state heap.new slots.new scalars.new list.new directory.new cells.new) bytes.new places.new }
+    ensures ready { Ready (state heap.new slots.new scalars.new list.new directory.new cells.new) marks.new order.new layout.now table.now }
     ensures marks_unchanged { marks.new ≡ marks.old }
     ensures order_unchanged { order.new ≡ order.old }
 {
-    let s = shape_of(code);
-    let g = s.group;
-    if g < 10 {
-        let p = readings::read_group(g, heap, slots, scalars, list, directory, cells, code, o);
-        return Turn { heap, performed: p };
-    }
-    if g < 14 {
-        return changes::change_group(g, heap, slots, scalars, list, directory, cells, code, o);
-    }
-    if g == 14 {
-        return changes::new_with_list(
+    match shape_of(code).group {
+        g @ 0..10 => {
+            let view = HeapView {
+                heap: *heap,
+                slots,
+                scalars,
+                list,
+                directory,
+                cells,
+            };
+            readings::read_group(g, &view, code, o)
+        }
+        g @ 10..14 => {
+            changes::change_group(g, heap, slots, scalars, list, directory, cells, code, o)
+        }
+        14 => changes::new_with_list(
             heap, slots, scalars, list, directory, cells, code, o, words, frames, bytes,
-        );
+        ),
+        _ => changes::lent_call(
+            heap, slots, scalars, list, directory, cells, marks, order, layout, table, code, o,
+            words, bytes, places,
+        ),
     }
-    changes::lent_call(
-        heap, slots, scalars, list, directory, cells, marks, order, layout, table, code, o, words,
-        bytes, places,
-    )
 }

@@ -45,8 +45,6 @@ use Rattle.model.specs.Terms.{a_box, charging, kind_of, read_or, row_of, uncharg
 use Rattle.model.specs.Step.{accept, account_after, answer_of, collections_after, finish, judged, paid, step}
 use Rattle.model.specs.Slots.{apply}
 use Rattle.heap.specs.declared.Heap.{Heap}
-use Rattle.heap.specs.declared.Located.{Located}
-use Rattle.heap.specs.declared.Located.TheVariants as L
 use Rattle.heap.specs.declared.Refusal.{Refusal}
 use Rattle.heap.specs.declared.Refusal.TheVariants as No
 use Rattle.heap.specs.Answers.{answered, refused}
@@ -222,13 +220,13 @@ unboxed_else (some (closure x)) h = refl
 unboxed_else (some (iterator x)) h = refl
 unboxed_else (some (coroutine x)) h = refl
 
-module _ {t : State} {w : ℕ} {b : Bool} {r : Located} (g : Good t) (e : b ≡ is_box_word w) (f : b ≡ true) (d : Locates t.slots t.heap.fresh w 5 r) where
+module _ {t : State} {w : ℕ} {b : Bool} {r : Result ℕ Refusal} (g : Good t) (e : b ≡ is_box_word w) (f : b ≡ true) (d : Locates t.slots t.heap.fresh w 5 r) where
   boxed_read : {n : ℕ} → ((l : Layout) → unboxed (look (view_of (model_of l t)) w) ≡ n) → Reads (Calls.deref_word w) t (answered (number n))
   unfolding terms effect
   boxed_read h =
       reads_so (Calls.deref_word w) g (λ l. refl) (λ l. ap (λ (n : ℕ). uncharged [] (number n)) ((boxed-word (view_of (model_of l t)) w (sym e ∙ f)).1 ∙ h l))
 
-  pub deref-refused : {q : Refusal} → r ≡ L.Refused q → Reads (Calls.deref_word w) t (answered (number 0))
+  pub deref-refused : {q : Refusal} → r ≡ Err q → Reads (Calls.deref_word w) t (answered (number 0))
   unfolding target
   deref-refused {q} z =
       boxed_read
@@ -237,7 +235,7 @@ module _ {t : State} {w : ℕ} {b : Bool} {r : Located} (g : Good t) (e : b ≡ 
       let c = (boxed-word v w (sym e ∙ f)).0 in
       unboxed_else (look v w) (λ y. number_not_0 q (sym (located_refused g d z l says_box) ∙ rw c y)))
 
-  pub deref-at : {i : ℕ} {h : Header} → r ≡ L.At i → h ≡ header_at t.slots i → Reads (Calls.deref_word w) t (answered (number h.value))
+  pub deref-at : {i : ℕ} {h : Header} → r ≡ Ok i → h ≡ header_at t.slots i → Reads (Calls.deref_word w) t (answered (number h.value))
   unfolding unboxed raw_at
   deref-at {i} z p =
       boxed_read

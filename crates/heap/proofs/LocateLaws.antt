@@ -1,4 +1,5 @@
 -- The answers of locate and row_at. Assumes nothing.
+use Rattle.heap.specs.declared.Refusal.{Refusal}
 use Rattle.std.proofs.Common.{Result, Ok, Err}
 use Prim.Native.Nat.{ℕ, ◌+◌, ◌*◌, ◌/◌, ◌%◌, ◌≤◌, ◌<◌}
 use mathlib.Core.Path.{◌≡◌, refl, ap, sym, ◌∙◌}
@@ -16,11 +17,8 @@ use Rattle.heap_slots.specs.declared.Miss.{Miss}
 use Rattle.heap_slots.specs.declared.Miss.TheVariants as F
 use Rattle.heap_slots.specs.declared.Header.{Header}
 use Rattle.history.proofs.Facts.{eqb_no, eqb_yes}
-use Rattle.heap.specs.declared.Located.{Located}
-use Rattle.heap.specs.declared.Located.TheVariants.{At, Refused}
-use Rattle.heap.specs.declared.Refusal.TheVariants.{DeadReference, NilTarget, OtherKind}
-use Rattle.heap.specs.Answers.{number_of}
-use Rattle.heap.specs.Locating as L
+use Rattle.heap.specs.declared.Refusal.TheVariants.{OtherKind}
+use Rattle.heap.specs.Answers.{missing, number_of}
 use Rattle.heap.specs.Locating.{Locates, Ranks, located_by, located_in, located_number, row_by, target_number}
 
 -- ---- an object that is found lies within the slots
@@ -43,38 +41,30 @@ found-fits d e a b = let l = found_within d e in (omega arith, omega arith)
 -- ---- the answers
 
 number_by : (s : List ℕ) (kind : ℕ) (f : Result ℕ Miss) → located_number (located_by s kind f) ≡ target_number s kind f
-unfolding located_number located_by target_number number_of
+unfolding located_number located_by target_number number_of missing
 number_by s kind (Ok i) = go (eqb (header_at s i).kind kind)
   where
-    go : (b : Bool) → located_number (L.pick b (At i) (Refused OtherKind)) ≡ cond b 0 2
+    go : (b : Bool) → located_number (cond b (Ok i) (Err OtherKind)) ≡ cond b 0 2
     go true = refl
     go false = refl
 number_by s kind (Err F.Nil) = refl
 number_by s kind (Err F.Dead) = refl
 number_by s kind (Err F.Wrong) = refl
 
-pub locates_so : {s : List ℕ} {n w kind : ℕ} {r : Located} → r ≡ located_in s n w kind → Locates s n w kind r
+pub locates_so : {s : List ℕ} {n w kind : ℕ} {r : Result ℕ Refusal} → r ≡ located_in s n w kind → Locates s n w kind r
 unfolding located_in
 locates_so {s} {n} {w} {kind} e = record { is = e; number = ap located_number e ∙ number_by s kind (hit_first s n w) }
 
 module _ {s : List ℕ} {n w kind : ℕ} {f : Result ℕ Miss} (d : Finds s n w f) where
-  pub locates_nil : f ≡ Err F.Nil → Locates s n w kind (Refused NilTarget)
+  pub locates_missed : {m : Miss} → f ≡ Err m → Locates s n w kind (Err (missing m))
   unfolding located_in located_by
-  locates_nil e = locates_so (rw (sym d.is ∙ e))
+  locates_missed e = locates_so (rw (sym d.is ∙ e))
 
-  pub locates_dead : f ≡ Err F.Dead → Locates s n w kind (Refused DeadReference)
-  unfolding located_in located_by
-  locates_dead e = locates_so (rw (sym d.is ∙ e))
-
-  pub locates_wrong : f ≡ Err F.Wrong → Locates s n w kind (Refused OtherKind)
-  unfolding located_in located_by
-  locates_wrong e = locates_so (rw (sym d.is ∙ e))
-
-  pub locates_at : {i : ℕ} {h : Header} → f ≡ Ok i → h ≡ header_at s i → h.kind ≡ kind → Locates s n w kind (At i)
+  pub locates_at : {i : ℕ} {h : Header} → f ≡ Ok i → h ≡ header_at s i → h.kind ≡ kind → Locates s n w kind (Ok i)
   unfolding located_in located_by
   locates_at {i} {h} e r k = locates_so (rw (sym d.is ∙ e, eqb_yes (header_at s i).kind kind (ap (λ (x : Header). x.kind) (sym r) ∙ k)))
 
-  pub locates_other : {i : ℕ} {h : Header} → f ≡ Ok i → h ≡ header_at s i → (h.kind ≡ kind → ⊥) → Locates s n w kind (Refused OtherKind)
+  pub locates_other : {i : ℕ} {h : Header} → f ≡ Ok i → h ≡ header_at s i → (h.kind ≡ kind → ⊥) → Locates s n w kind (Err OtherKind)
   unfolding located_in located_by
   locates_other {i} {h} e r k = locates_so (rw (sym d.is ∙ e, eqb_no (header_at s i).kind kind (λ z. k (ap (λ (x : Header). x.kind) r ∙ z))))
 

@@ -1,15 +1,15 @@
 -- Opening: buffers cleared, a heap without objects, and the refusals. Assumes nothing.
-use Prim.Native.Nat.{ℕ, zero, suc, ◌+◌, ◌*◌, ◌≤◌, ◌<◌}
+use Rattle.std.proofs.Common.{Ok, Err}
+use Prim.Native.Nat.{ℕ, ◌+◌, ◌*◌, ◌≤◌, ◌<◌}
 use mathlib.Core.Path.{◌≡◌, refl, ap, sym, ◌∙◌, fun_ext}
 use mathlib.Core.Bool.{Bool, true, false, cond, ◌&&◌}
-use mathlib.Core.List.{List, ◌∷◌, ◌++◌}
+use mathlib.Core.List.{List, ◌++◌}
 use mathlib.Core.Option.{Option, none, some}
 use native.Mathlib.Omega.{arith}
-use native.Mathlib.Numerals.{add-one}
 use borrow.Author.Tests.{leb-true}
 use lib.Dec.{leb}
-use lib.ListN.{get_or-append, drop, get_or, get_or-replicate, length, length-append, length-drop, length-replicate, replicate, set}
-use lib.Seq.{drop-cons, set-append_seam}
+use lib.ListN.{get_or-append, drop, get_or, get_or-replicate, length, length-append, length-drop, length-replicate, replicate, take}
+use lib.Seq.{length-take-le}
 use Rattle.heap_slots.specs.Limits.{CELLS_MAX, SLOT_WORDS, SLOTS_MAX}
 use Rattle.words.specs.WordLaws.{and_left, and_right}
 use Rattle.heap_cells.specs.Regions.{sum_to}
@@ -24,7 +24,6 @@ use Rattle.history.proofs.Facts.{leb_yes}
 use Rattle.model.specs.Opening.{Opening, between, open_heap, open_with, opened, sizes_fit}
 use Rattle.model.specs.Terms.{is_some}
 use Rattle.model.specs.declared.Weights.{Weights}
-use Rattle.heap.specs.declared.Opened.TheVariants.{Ready, Refused}
 use Rattle.heap.specs.declared.Refusal.TheVariants.{BadOpening}
 use Rattle.heap.specs.State.{State, model_of, state}
 use Rattle.heap.specs.Good.{Good, WeightsGood}
@@ -32,18 +31,10 @@ use Rattle.heap.specs.Opens.{Beside, Opens, accepts, beside, cleared, new_heap, 
 use Rattle.heap.specs.Answers.{number_of}
 use Rattle.heap.proofs.SlotLaws.{slot-unused}
 
--- ---- places cleared one after another
+-- ---- places cleared
 
-replicate_more : (n : ℕ) (ys : List ℕ) → replicate n 0 ++ (0 ∷ ys) ≡ replicate (suc n) 0 ++ ys
-replicate_more zero ys = refl
-replicate_more (suc n) ys = ap (λ (l : List ℕ). 0 ∷ l) (replicate_more n ys)
-
-pub cleared_more : (l : List ℕ) (i : ℕ) → i < length l → set (cleared l i) i 0 ≡ cleared l (i + 1)
-cleared_more l i h =
-    rw (add-one i, drop-cons l i 0 h)
-    (ap (λ (n : ℕ). set (replicate i 0 ++ (get_or l i 0 ∷ drop (suc i) l)) n 0) (sym (length-replicate i 0))
-    ∙ set-append_seam (replicate i 0) (get_or l i 0) (drop (suc i) l) 0
-    ∙ replicate_more i (drop (suc i) l))
+pub filled : (l part : List ℕ) (n : ℕ) → n ≤ length l → part ≡ replicate (length (take n l)) 0 → part ++ drop n l ≡ cleared l n
+filled l part n h e = ap (λ (p : List ℕ). p ++ drop n l) (e ∙ ap (λ (k : ℕ). replicate k 0) (length-take-le n l h))
 
 pub cleared-length : (l : List ℕ) (n : ℕ) → n ≤ length l → length (cleared l n) ≡ length l
 cleared-length l n h = length-append (replicate n 0) (drop n l) ∙ omega (arith, length-replicate {A = ℕ} n 0, length-drop n l)
@@ -138,14 +129,14 @@ layout-refused o t x w e =
     let f = layout_so (readable o.layout x.table) (sym e ∙ w.number) in
     (layout-no o t x (is_layout o.layout) refl f, w.table ∙ rw f)
 
-opens-no : {o : Opening} {t : State} {x y : Beside} → accepts o t x ≡ false → y ≡ x → Opens o t x (Refused BadOpening) y
+opens-no : {o : Opening} {t : State} {x y : Beside} → accepts o t x ≡ false → y ≡ x → Opens o t x (Err BadOpening) y
 unfolding opened_by opened_number number_of
 opens-no h e = record { answer = rw h; number = rw h; accepted = λ z. absurd (let y : true ≡ false = sym z ∙ h in let w : ◌≡◌ {A = ℕ} 0 1 = cc in omega arith); refused = λ z. e }
 
-pub opens-refused : {o : Opening} {t : State} {x : Beside} → accepts o t x ≡ false → Opens o t x (Refused BadOpening) x
+pub opens-refused : {o : Opening} {t : State} {x : Beside} → accepts o t x ≡ false → Opens o t x (Err BadOpening) x
 opens-refused h = opens-no h refl
 
-pub opens-unread : {o : Opening} {t : State} {x : Beside} {table : List ℕ} {r : Result Unit BadLayout} → LayoutRead o.layout x.table table r → opening_number r ≡ 10 → Opens o t x (Refused BadOpening) (beside table x.marks x.order)
+pub opens-unread : {o : Opening} {t : State} {x : Beside} {table : List ℕ} {r : Result Unit BadLayout} → LayoutRead o.layout x.table table r → opening_number r ≡ 10 → Opens o t x (Err BadOpening) (beside table x.marks x.order)
 opens-unread {o} {t} {x} w e = let f = layout-refused o t x w e in opens-no f.0 (rw f.1)
 
 -- ---- accepted
@@ -205,7 +196,7 @@ module _ (o : Opening) (s x f d c : List ℕ) (b : Beside) where
   heap-opened = state (new_heap o.slots o.limit o.weights) s x f d c
 
   pub opens-accepted : {table marks order : List ℕ} {r : Result Unit BadLayout} → sizes_fit o ≡ true → o.cells ≡ length c → room_for o.slots (length s) (length x) (length f) (length d) (length b.marks) (length b.order) ≡ true →
-      LayoutRead o.layout b.table table r → IsOk r → marks ≡ cleared b.marks o.slots → order ≡ cleared b.order (o.slots * 2) → Opens o heap-opened b (Ready heap-opened.heap) (beside table marks order)
+      LayoutRead o.layout b.table table r → IsOk r → marks ≡ cleared b.marks o.slots → order ≡ cleared b.order (o.slots * 2) → Opens o heap-opened b (Ok heap-opened.heap) (beside table marks order)
   unfolding accepts open_heap open_with is_some opened_by opened_number table_after
   opens-accepted {table} {marks} {order} sizes cells room w e em eo =
       let k = w.tabled e in

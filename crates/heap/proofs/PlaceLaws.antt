@@ -1,4 +1,5 @@
 -- A new object is placed. Assumes nothing.
+use Rattle.std.proofs.Common.{Ok, Err}
 use Prim.Native.Nat.{ℕ, ◌+◌, ◌*◌, ◌-◌, ◌%◌, ◌≤◌, ◌<◌}
 use mathlib.Core.Path.{◌≡◌, refl, ap, sym, ◌∙◌, fun_ext}
 use mathlib.Core.Bool.{Bool, true, false, cond, not, ◌||◌}
@@ -39,10 +40,9 @@ use Rattle.model.specs.Model.{view_of}
 use Rattle.model.specs.Refusals.{added, budget, first, slotless}
 use Rattle.model.specs.Terms.{terms}
 use Rattle.model.specs.Step.{accept, account_after, answer_of, collections_after, paid, refusal_of, step}
-use Rattle.heap.specs.declared.Done.TheVariants.{Accepted, Refused}
 use Rattle.heap.specs.declared.Refusal.{Refusal}
 use Rattle.heap.specs.declared.Refusal.TheVariants as No
-use Rattle.heap.specs.Answers.{number_of}
+use Rattle.heap.specs.Answers.{accepted, number_of}
 use Rattle.heap.specs.Kinds.{content_of, room_of}
 use Rattle.heap.specs.State.{State, model_of, more_of, raw_of, slot_from, slot_of, with_placed}
 use Rattle.heap.specs.Good.{Good, SlotGood, coroutine_of, filled}
@@ -319,15 +319,15 @@ no-slot_test free fresh size e =
     (λ z. (z, ltb-false fresh size (rw (eqb_yes free 0 z) at e)))
     (λ nz. absurd (let y : true ≡ false = rw (eqb_no free 0 nz) at e in let z : ◌≡◌ {A = ℕ} 0 1 = cc in omega arith))
 
-accepted-refused : {q : Refusal} → Refused q ≡ Accepted → ⊥
+accepted-refused : {q : Refusal} → Err q ≡ accepted → ⊥
 accepted-refused e = let z : ◌≡◌ {A = ℕ} 0 1 = cc in absurd (omega arith)
 
-pub judged-accepted : (t : State) (bytes size : ℕ) → judged_new t.heap (length t.cells) bytes size ≡ Accepted → Judged t bytes size
+pub judged-accepted : (t : State) (bytes size : ℕ) → judged_new t.heap (length t.cells) bytes size ≡ accepted → Judged t bytes size
 unfolding judged_new
 judged-accepted t bytes size e = go (fits t.heap.account bytes) (not (eqb t.heap.free 0) || ltb t.heap.fresh t.heap.size) (leb (t.heap.taken + size) (length t.cells)) refl refl refl e
   where
     go : (a b c : Bool) → fits t.heap.account bytes ≡ a → (not (eqb t.heap.free 0) || ltb t.heap.fresh t.heap.size) ≡ b → leb (t.heap.taken + size) (length t.cells) ≡ c →
-        cond a (cond b (cond c Accepted (Refused No.NoCells)) (Refused No.NoSlot)) (Refused No.OverBudget) ≡ Accepted → Judged t bytes size
+        cond a (cond b (cond c accepted (Err No.NoCells)) (Err No.NoSlot)) (Err No.OverBudget) ≡ accepted → Judged t bytes size
     go true true true x y z e = record { in_budget = x; left = slot_test t.heap.free t.heap.fresh t.heap.size y; room = leb-true _ _ z }
     go true true false x y z e = absurd (accepted-refused e)
     go true false c x y z e = absurd (accepted-refused e)
@@ -342,12 +342,12 @@ module _ (l : Layout) {t : State} (g : Good t) (bytes size : ℕ) (k : Call) {c 
   in_budget f = fits_so t.heap.account n (sym fits-is ∙ f)
 
   -- the first of 5, 6 and 7 that is met
-  pub judged-refused : {q : Refusal} → judged_new t.heap (length t.cells) bytes size ≡ Refused q → Does l k t record { refusal = number_of q; answer = reply nothing; lent = x } t
+  pub judged-refused : {q : Refusal} → judged_new t.heap (length t.cells) bytes size ≡ Err q → Does l k t record { refusal = number_of q; answer = reply nothing; lent = x } t
   unfolding judged_new added
   judged-refused {q} e = go (fits t.heap.account bytes) (not (eqb t.heap.free 0) || ltb t.heap.fresh t.heap.size) (leb (t.heap.taken + size) (length t.cells)) refl refl refl e
     where
       go : (a b d : Bool) → fits t.heap.account bytes ≡ a → (not (eqb t.heap.free 0) || ltb t.heap.fresh t.heap.size) ≡ b → leb (t.heap.taken + size) (length t.cells) ≡ d →
-          cond a (cond b (cond d Accepted (Refused No.NoCells)) (Refused No.NoSlot)) (Refused No.OverBudget) ≡ Refused q → Does l k t record { refusal = number_of q; answer = reply nothing; lent = x } t
+          cond a (cond b (cond d accepted (Err No.NoCells)) (Err No.NoSlot)) (Err No.OverBudget) ≡ Err q → Does l k t record { refusal = number_of q; answer = reply nothing; lent = x } t
       go true true true f y z e = absurd (accepted-refused (sym e))
       go true true false f y z e =
           let q' : No.NoCells ≡ q = (cc) in

@@ -28,13 +28,11 @@ use Rattle.model.specs.Slots.{Object, live, live_object, room_at, room_in}
 use Rattle.model.specs.Slots as Slots
 use Rattle.model.specs.Model.{view_of}
 use Rattle.model.specs.Refusals.{target, unless}
-use Rattle.heap.specs.declared.Located.{Located}
-use Rattle.heap.specs.declared.Located.TheVariants.{At, Refused}
 use Rattle.heap.specs.declared.Refusal.{Refusal}
 use Rattle.heap.specs.declared.Refusal.TheVariants.{DeadReference, NilTarget, OtherKind}
-use Rattle.heap.specs.Answers.{number_of}
+use Rattle.heap.specs.Answers.{missing, number_of}
 use Rattle.heap.specs.Kinds.{content_of, room_of}
-use Rattle.heap.specs.Locating.{Locates, located_by, located_in, pick}
+use Rattle.heap.specs.Locating.{Locates, located_by, located_in}
 use Rattle.heap.specs.State.{State, model_of, more_of, raw_of, slot_from, slot_of}
 use Rattle.heap.specs.Good.{Good}
 use Rattle.heap.proofs.KindLaws.{Says, kind_test, object-none, object-some}
@@ -181,30 +179,28 @@ pub record Target (t : State) (w i kind : ℕ) : Type 0 where
   pub reached : Reached t w i
   pub kind-is : (raw_of t i).kind ≡ kind
 
-at-refused : {i : ℕ} {q : Refusal} → At i ≡ Refused q → ⊥
+at-refused : {i : ℕ} {q : Refusal} → ◌≡◌ {A = Result ℕ Refusal} (Ok i) (Err q) → ⊥
 at-refused e = let z : ◌≡◌ {A = ℕ} 0 1 = cc in absurd (omega arith)
 
-picked_at : (b : Bool) {i j : ℕ} → pick b (At j) (Refused OtherKind) ≡ At i → (b ≡ true) × (j ≡ i)
+picked_at : (b : Bool) {i j : ℕ} → ◌≡◌ {A = Result ℕ Refusal} (cond b (Ok j) (Err OtherKind)) (Ok i) → (b ≡ true) × (j ≡ i)
 picked_at true x = (refl, (cc))
 picked_at false x = absurd (at-refused (sym x))
 
-picked_refused : (b : Bool) (j : ℕ) {q : Refusal} → pick b (At j) (Refused OtherKind) ≡ Refused q → (b ≡ false) × (OtherKind ≡ q)
+picked_refused : (b : Bool) (j : ℕ) {q : Refusal} → ◌≡◌ {A = Result ℕ Refusal} (cond b (Ok j) (Err OtherKind)) (Err q) → (b ≡ false) × (OtherKind ≡ q)
 picked_refused true j x = absurd (at-refused x)
 picked_refused false j x = (refl, (cc))
 
-at-by : {t : State} {w i kind : ℕ} (f : Result ℕ Miss) → Good t → Finds t.slots t.heap.fresh w f → located_by t.slots kind f ≡ At i → Target t w i kind
+at-by : {t : State} {w i kind : ℕ} (f : Result ℕ Miss) → Good t → Finds t.slots t.heap.fresh w f → located_by t.slots kind f ≡ Ok i → Target t w i kind
 unfolding located_by raw_at
 at-by {t} {kind = kind} (Ok j) g d x =
     let p = picked_at (eqb (header_at t.slots j).kind kind) x in
     let e : (header_at t.slots j).kind ≡ kind = eqb-true _ _ p.0 in
     record { reached = found-reached g d (ap Ok p.1); kind-is = rw p.1 at e }
-at-by (Err F.Nil) g d x = absurd (at-refused (sym x))
-at-by (Err F.Dead) g d x = absurd (at-refused (sym x))
-at-by (Err F.Wrong) g d x = absurd (at-refused (sym x))
+at-by (Err m) g d x = absurd (at-refused (sym x))
 
-refused-by : (l : Layout) {t : State} {w kind : ℕ} {is : Content → Bool} {q : Refusal} → Says is kind → (f : Result ℕ Miss) → Good t → Finds t.slots t.heap.fresh w f → located_by t.slots kind f ≡ Refused q →
+refused-by : (l : Layout) {t : State} {w kind : ℕ} {is : Content → Bool} {q : Refusal} → Says is kind → (f : Result ℕ Miss) → Good t → Finds t.slots t.heap.fresh w f → located_by t.slots kind f ≡ Err q →
     target (view_of (model_of l t)) is w ≡ number_of q
-unfolding located_by raw_at number_of unless
+unfolding located_by raw_at number_of unless missing
 refused-by l {t} {kind = kind} {is = is} s (Ok j) g d x =
     let p = picked_refused (eqb (header_at t.slots j).kind kind) j x in
     let h = found-reached g d refl in
@@ -214,13 +210,13 @@ refused-by l {is = is} {q = q} s (Err F.Nil) g d x = let e : NilTarget ≡ q = (
 refused-by l {is = is} {q = q} s (Err F.Dead) g d x = let e : DeadReference ≡ q = (cc) in rw (← e) (dead-target l g d refl is)
 refused-by l {is = is} {q = q} s (Err F.Wrong) g d x = let e : OtherKind ≡ q = (cc) in rw (← e) (wrong_target l g d refl is)
 
-module _ {t : State} {w kind : ℕ} {r : Located} (g : Good t) (d : Locates t.slots t.heap.fresh w kind r) where
-  pub located_at : {i : ℕ} → r ≡ At i → Target t w i kind
+module _ {t : State} {w kind : ℕ} {r : Result ℕ Refusal} (g : Good t) (d : Locates t.slots t.heap.fresh w kind r) where
+  pub located_at : {i : ℕ} → r ≡ Ok i → Target t w i kind
   unfolding located_in
   located_at e = at-by (hit_first t.slots t.heap.fresh w) g (finds_so refl) (sym d.is ∙ e)
 
   -- the refusal, for every test that says the kind
-  pub located_refused : {q : Refusal} → r ≡ Refused q → (l : Layout) {is : Content → Bool} → Says is kind → target (view_of (model_of l t)) is w ≡ number_of q
+  pub located_refused : {q : Refusal} → r ≡ Err q → (l : Layout) {is : Content → Bool} → Says is kind → target (view_of (model_of l t)) is w ≡ number_of q
   unfolding located_in
   located_refused e l s = refused-by l s (hit_first t.slots t.heap.fresh w) g (finds_so refl) (sym d.is ∙ e)
 
@@ -238,7 +234,7 @@ slot-fits g h = (omega (arith, h.within, g.fresh, g.slots_max), omega (arith, h.
 pub scalars_fit : {t : State} {w i : ℕ} → Good t → Reached t w i → (i < SLOTS_MAX) × (i * SLOT_WORDS + SLOT_WORDS ≤ length t.scalars)
 scalars_fit g h = (omega (arith, h.within, g.fresh, g.slots_max), omega (arith, h.within, g.fresh, g.scalars_fit))
 
-pub located_fits : {t : State} {w kind i : ℕ} {r : Located} → Good t → Locates t.slots t.heap.fresh w kind r → r ≡ At i → (i < SLOTS_MAX) × (i * SLOT_WORDS + SLOT_WORDS ≤ length t.slots)
+pub located_fits : {t : State} {w kind i : ℕ} {r : Result ℕ Refusal} → Good t → Locates t.slots t.heap.fresh w kind r → r ≡ Ok i → (i < SLOTS_MAX) × (i * SLOT_WORDS + SLOT_WORDS ≤ length t.slots)
 located_fits g d e = slot-fits g (located_at g d e).reached
 
 -- it is of no other kind

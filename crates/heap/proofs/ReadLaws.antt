@@ -1,4 +1,5 @@
 -- Readings of one object: the refusals, and what the model reads of the object that a word reaches. Assumes nothing.
+use Rattle.std.proofs.Common.{Result, Err}
 use Prim.Native.Nat.{ℕ, ◌≤◌, ◌<◌}
 use mathlib.Core.Path.{◌≡◌, ap, ◌∙◌}
 use mathlib.Core.Bool.{Bool, false}
@@ -18,8 +19,6 @@ use Rattle.model.specs.Replies.{Lent, Reply, nothing, reply}
 use Rattle.model.specs.Model.{view_of}
 use Rattle.model.specs.Refusals.{first, inside, target}
 use Rattle.model.specs.Terms.{bytes, captures, fields, frames, items, key_traced, map_store, read_or, registers, terms}
-use Rattle.heap.specs.declared.Located.{Located}
-use Rattle.heap.specs.declared.Located.TheVariants as L
 use Rattle.heap.specs.declared.Refusal.{Refusal}
 use Rattle.heap.specs.declared.Refusal.TheVariants as No
 use Rattle.heap.specs.Answers.{number_of}
@@ -36,7 +35,7 @@ use Rattle.heap.proofs.DoesLaws.{does-answered, does-own, first_none, first_pass
 
 module _ (l : Layout) {t : State} (g : Good t) (k : Call) where
   -- 1, 11 or 2
-  pub object-refused : {w kind : ℕ} {r : Located} {q : Refusal} {is : Content → Bool} {rest : List ℕ} {x : Lent} → Locates t.slots t.heap.fresh w kind r → r ≡ L.Refused q → Says is kind →
+  pub object-refused : {w kind : ℕ} {r : Result ℕ Refusal} {q : Refusal} {is : Content → Bool} {rest : List ℕ} {x : Lent} → Locates t.slots t.heap.fresh w kind r → r ≡ Err q → Says is kind →
       (terms (model_of l t) k).refusals ≡ target (view_of (model_of l t)) is w ∷ rest → (terms (model_of l t) k).lent_before ≡ x → Does l k t record { refusal = number_of q; answer = reply nothing; lent = x } t
   object-refused {q = q} {rest = rest} d e s h b = does-own l g k q b (rw h (first_refuses rest q (located_refused g d e l s)))
 

@@ -21,25 +21,24 @@ use Rattle.heap_slots.proofs.FreeListLaws.{taken_facts, taken-max}
 use Rattle.heap_cells.proofs.SumLaws.{sum_le}
 use Rattle.history.proofs.Facts.{eqb_no, eqb_yes, leb_no, leb_yes, ltb_no, ltb_yes}
 use Rattle.heap.specs.declared.Heap.{Heap}
-use Rattle.heap.specs.declared.Made.{Made}
-use Rattle.heap.specs.declared.Reading.TheVariants.{Is}
-use Rattle.heap.specs.declared.Done.TheVariants.{Accepted, Refused}
+use Rattle.heap.specs.declared.Refusal.{Refusal}
 use Rattle.heap.specs.declared.Refusal.TheVariants as No
 use Rattle.heap.specs.Record.{with_objects}
 use Rattle.heap.specs.State.{State, state, with_regions}
 use Rattle.heap.specs.Good.{Good, coroutine_of}
+use Rattle.heap.specs.Answers.{accepted}
 use Rattle.heap.specs.Placing.{PlacesPlain, PlacesRegion, PlainObject, RegionObject, Seatable, Seats, flag_of, judged_new, next_slot, placed_plain, placed_region}
 use Rattle.heap.proofs.PlaceLaws.{coroutine-max, judged-accepted, plain_good, region-good}
 
 -- ---- judge_new
 
 module _ (h : Heap) (total bytes size : ℕ) where
-  pub judges_5 : fits h.account bytes ≡ false → Refused No.OverBudget ≡ judged_new h total bytes size
+  pub judges_5 : fits h.account bytes ≡ false → ◌≡◌ {A = Result Unit Refusal} (Err No.OverBudget) (judged_new h total bytes size)
   unfolding judged_new
   judges_5 f = rw f
 
   module _ (f : fits h.account bytes ≡ true) where
-    pub judges_6 : h.free ≡ 0 → h.size ≤ h.fresh → Refused No.NoSlot ≡ judged_new h total bytes size
+    pub judges_6 : h.free ≡ 0 → h.size ≤ h.fresh → ◌≡◌ {A = Result Unit Refusal} (Err No.NoSlot) (judged_new h total bytes size)
     unfolding judged_new
     judges_6 z s = rw (f, eqb_yes h.free 0 z, ltb_no h.fresh h.size s)
 
@@ -49,11 +48,11 @@ module _ (h : Heap) (total bytes size : ℕ) where
         (λ z. rw (eqb_yes h.free 0 z) (ltb_yes h.fresh h.size (left z)))
         (λ nz. rw (eqb_no h.free 0 nz))
 
-    pub judges_7 : (h.free ≡ 0 → h.fresh < h.size) → total < h.taken + size → Refused No.NoCells ≡ judged_new h total bytes size
+    pub judges_7 : (h.free ≡ 0 → h.fresh < h.size) → total < h.taken + size → ◌≡◌ {A = Result Unit Refusal} (Err No.NoCells) (judged_new h total bytes size)
     unfolding judged_new
     judges_7 left o = rw (f, slot-there left, leb_no (h.taken + size) total o)
 
-    pub judges_accepted : (h.free ≡ 0 → h.fresh < h.size) → h.taken + size ≤ total → Accepted ≡ judged_new h total bytes size
+    pub judges_accepted : (h.free ≡ 0 → h.fresh < h.size) → h.taken + size ≤ total → accepted ≡ judged_new h total bytes size
     unfolding judged_new
     judges_accepted left o = rw (f, slot-there left, leb_yes (h.taken + size) total o)
 
@@ -69,7 +68,7 @@ next-listed list fresh free nz = rw (eqb_no free 0 nz)
 
 -- ---- seat
 
-pub seatable : {t : State} {bytes size : ℕ} → Good t → judged_new t.heap (length t.cells) bytes size ≡ Accepted → Seatable t.heap t.slots t.list bytes size
+pub seatable : {t : State} {bytes size : ℕ} → Good t → judged_new t.heap (length t.cells) bytes size ≡ accepted → Seatable t.heap t.slots t.list bytes size
 seatable {t} {bytes} {size} g e =
     let j = judged-accepted t bytes size e in
     record {
@@ -104,7 +103,7 @@ abbrev pub seated_heap : Heap → Account → TakenSlot → ℕ → ℕ → Heap
 seated_heap h a t size coroutine = with_objects h a t.fresh t.free h.top h.entries (h.taken + size) (h.present + 1) (h.coroutines + coroutine)
 
 pub seats : (h : Heap) {s s' list : List ℕ} (bytes : ℕ) (hd : Header) {flag coroutine : ℕ} {t : TakenSlot} {c : Result Account OverBudget} {a : Account} → Takes s list h.fresh h.free flag t → flag ≡ flag_of hd.kind → coroutine ≡ coroutine_of hd.kind → charge_is h.account c ≡ charge_of h.account bytes → c ≡ Ok a →
-    s' ≡ set_header s t.slot (with_half hd t.half) → Seats h s list hd bytes record { heap = seated_heap h a t hd.size coroutine; answer = Is (t.half * SPAN + t.slot) } s'
+    s' ≡ set_header s t.slot (with_half hd t.half) → Seats h s list hd bytes (Ok (t.half * SPAN + t.slot)) (seated_heap h a t hd.size coroutine) s'
 seats h {s} {list = list} bytes hd {t = t} e f o p q w =
     let half : t.half ≡ taken_half s list h.free + flag_of hd.kind = e.half ∙ ap (λ (n : ℕ). taken_half s list h.free + n) f in
     record {
@@ -115,17 +114,17 @@ seats h {s} {list = list} bytes hd {t = t} e f o p q w =
 
 -- ---- the states after placing
 
-pub plain_state : {t : State} (hd : Header) {bytes : ℕ} {r : Made} {s' : List ℕ} → Good t → judged_new t.heap (length t.cells) bytes 0 ≡ Accepted → PlainObject t hd →
-    Seats t.heap t.slots t.list (with_region hd 0 0 0) bytes r s' → PlacesPlain t hd bytes r.answer (state r.heap s' t.scalars t.list t.directory t.cells)
-plain_state {t} hd {bytes} {r} {s'} g j o w =
-    let e : state r.heap s' t.scalars t.list t.directory t.cells ≡ placed_plain t hd bytes = rw (w.heap, w.slots) in
+pub plain_state : {t : State} (hd : Header) {bytes : ℕ} {r : Result ℕ Refusal} {h' : Heap} {s' : List ℕ} → Good t → judged_new t.heap (length t.cells) bytes 0 ≡ accepted → PlainObject t hd →
+    Seats t.heap t.slots t.list (with_region hd 0 0 0) bytes r h' s' → PlacesPlain t hd bytes r (state h' s' t.scalars t.list t.directory t.cells)
+plain_state {t} hd {bytes} {r} {h'} {s'} g j o w =
+    let e : state h' s' t.scalars t.list t.directory t.cells ≡ placed_plain t hd bytes = rw (w.heap, w.slots) in
     record { after = e; answer = w.answer; good = subst Good (sym e) (plain_good g hd bytes o.some_kind (judged-accepted t bytes 0 j) o.fit) }
 
-pub region-state : {t : State} (hd : Header) {bytes slot : ℕ} {r : Made} {s' : List ℕ} → Good t → judged_new t.heap (length t.cells) bytes hd.size ≡ Accepted → t.heap.top + hd.size ≤ length t.cells →
-    t.heap.entries < t.heap.size * 2 → RegionObject t hd → Seats t.heap t.slots t.list (with_region hd hd.size t.heap.top t.heap.entries) bytes r s' → slot ≡ next_slot t →
-    PlacesRegion t hd bytes r.answer
-    (state (with_regions r.heap r.heap.account (t.heap.top + hd.size) (t.heap.entries + 1) r.heap.taken) s' t.scalars t.list (set t.directory t.heap.entries slot) t.cells)
-region-state {t} hd {bytes} {slot} {r} {s'} g j top entry o w n =
-    let e : state (with_regions r.heap r.heap.account (t.heap.top + hd.size) (t.heap.entries + 1) r.heap.taken) s' t.scalars t.list (set t.directory t.heap.entries slot) t.cells ≡ placed_region t hd bytes =
+pub region-state : {t : State} (hd : Header) {bytes slot : ℕ} {r : Result ℕ Refusal} {h' : Heap} {s' : List ℕ} → Good t → judged_new t.heap (length t.cells) bytes hd.size ≡ accepted → t.heap.top + hd.size ≤ length t.cells →
+    t.heap.entries < t.heap.size * 2 → RegionObject t hd → Seats t.heap t.slots t.list (with_region hd hd.size t.heap.top t.heap.entries) bytes r h' s' → slot ≡ next_slot t →
+    PlacesRegion t hd bytes r
+    (state (with_regions h' h'.account (t.heap.top + hd.size) (t.heap.entries + 1) h'.taken) s' t.scalars t.list (set t.directory t.heap.entries slot) t.cells)
+region-state {t} hd {bytes} {slot} {r} {h'} {s'} g j top entry o w n =
+    let e : state (with_regions h' h'.account (t.heap.top + hd.size) (t.heap.entries + 1) h'.taken) s' t.scalars t.list (set t.directory t.heap.entries slot) t.cells ≡ placed_region t hd bytes =
     rw (w.heap, w.slots, n) in
     record { after = e; answer = w.answer; good = subst Good (sym e) (region-good g hd bytes o.some_kind (judged-accepted t bytes hd.size j) top entry o.fit) }

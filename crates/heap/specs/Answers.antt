@@ -1,20 +1,14 @@
 -- What the answers of the calls mean: the number of each refusal, and the answer of the model.
-use Rattle.std.specs.Prelude.{ℕ}
+use Rattle.std.specs.Prelude.{ℕ, ℤ, Bool, Result, Ok, Err}
 use Rattle.heap_slots.specs.Kinds.{ARRAY, BOX, CELL, COROUTINE, DEAD, ERROR, FUNCTION, INTEGER, ITERATOR, MAP, NONE, STRING, STRUCT}
-use Rattle.model.specs.Replies.{Reply, nothing, number, signed, truth, reference_made, reply, no_memory}
+use Rattle.heap_slots.specs.declared.Miss.{Miss}
+use Rattle.heap_slots.specs.declared.Miss.TheVariants as F
+use Rattle.model.specs.Replies.{Answer, Reply, nothing, number, signed, truth, reference_made, reply, no_memory}
 use Rattle.history.proofs.Lift.{Seen}
 use Rattle.heap.specs.declared.Refusal.{Refusal}
 use Rattle.heap.specs.declared.Refusal.TheVariants as No
-use Rattle.heap.specs.declared.Reading.{Reading}
-use Rattle.heap.specs.declared.Reading.TheVariants as Read
-use Rattle.heap.specs.declared.Signed.{Signed}
-use Rattle.heap.specs.declared.Signed.TheVariants as Sign
-use Rattle.heap.specs.declared.Test.{Test}
-use Rattle.heap.specs.declared.Test.TheVariants as Tells
-use Rattle.heap.specs.declared.Done.{Done}
 use Rattle.heap.specs.declared.Kind.{Kind}
 use Rattle.heap.specs.declared.Kind.TheVariants as K
-use Rattle.heap.specs.declared.Done.TheVariants as Do
 
 -- document 01, "Who can be turned back"; document 02, (i)
 unfoldable pub number_of : Refusal → ℕ
@@ -37,30 +31,39 @@ refused q = record { refusal = number_of q; answer = reply nothing; lent = no_me
 abbrev pub answered : Reply → Seen
 answered a = record { refusal = 0; answer = reply a; lent = no_memory }
 
+-- what a call answered, f saying what the value is; or its refusal
+unfoldable pub seen_by : {A : Type 0} → (A → Answer) → Result A Refusal → Seen
+seen_by f (Ok a) = record { refusal = 0; answer = f a; lent = no_memory }
+seen_by f (Err q) = refused q
+
 -- a word or a number read
-unfoldable pub reading_is : Reading → Seen
-reading_is (Read.Is w) = answered (number w)
-reading_is (Read.Refused q) = refused q
+abbrev pub reading_is : Result ℕ Refusal → Seen
+reading_is = seen_by (λ n. reply (number n))
 
 -- an integer object's number
-unfoldable pub signed_is : Signed → Seen
-signed_is (Sign.Is z) = answered (signed z)
-signed_is (Sign.Refused q) = refused q
+abbrev pub signed_is : Result ℤ Refusal → Seen
+signed_is = seen_by (λ z. reply (signed z))
 
 -- yes or no
-unfoldable pub test_is : Test → Seen
-test_is (Tells.Is b) = answered (truth b)
-test_is (Tells.Refused q) = refused q
+abbrev pub test_is : Result Bool Refusal → Seen
+test_is = seen_by (λ b. reply (truth b))
 
 -- a call that answers no word
-unfoldable pub done_is : Done → Seen
-done_is Do.Accepted = answered nothing
-done_is (Do.Refused q) = refused q
+abbrev pub done_is : Result Unit Refusal → Seen
+done_is = seen_by (λ u. reply nothing)
 
 -- an allocation: the reference made
-unfoldable pub made_is : Reading → Seen
-made_is (Read.Is w) = record { refusal = 0; answer = reference_made w; lent = no_memory }
-made_is (Read.Refused q) = refused q
+abbrev pub made_is : Result ℕ Refusal → Seen
+made_is = seen_by reference_made
+
+abbrev pub accepted : Result Unit Refusal
+accepted = Ok tt
+
+-- "1 .. nil", "11, dead reference", "2 .. a word neither nil nor reference"
+unfoldable pub missing : Miss → Refusal
+missing F.Nil = No.NilTarget
+missing F.Dead = No.DeadReference
+missing F.Wrong = No.OtherKind
 
 -- `kind` of heap.rs: nil is 0, an object's kind its row, 12 truth, 13 float, 14 character; document 02, (i): 15 dead reference
 unfoldable pub kind_number : Kind → ℕ

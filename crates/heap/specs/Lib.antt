@@ -3,6 +3,8 @@ pub mod Kinds
 pub mod Record
 pub mod State
 pub mod Good
+pub mod GoodOnce
+pub mod View
 pub mod Promise
 pub mod Locating
 pub mod Placing

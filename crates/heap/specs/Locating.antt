@@ -5,30 +5,23 @@ use Rattle.heap_slots.specs.Kinds.{DEAD, NONE}
 use Rattle.heap_slots.specs.Lookup.{hit_first}
 use Rattle.heap_slots.specs.declared.Miss.{Miss}
 use Rattle.heap_slots.specs.declared.Miss.TheVariants as F
-use Rattle.heap.specs.declared.Located.{Located}
-use Rattle.heap.specs.declared.Located.TheVariants.{At, Refused}
-use Rattle.heap.specs.declared.Refusal.TheVariants.{DeadReference, NilTarget, OtherKind}
-use Rattle.heap.specs.Answers.{number_of}
+use Rattle.heap.specs.declared.Refusal.{Refusal}
+use Rattle.heap.specs.declared.Refusal.TheVariants.{OtherKind}
+use Rattle.heap.specs.Answers.{missing, number_of}
 use Rattle.heap.specs.Kinds.{LAST_ROW}
 
-abbrev pub pick : Bool → Located → Located → Located
-pick true a b = a
-pick false a b = b
-
 -- by what the word reaches: an object of the kind, or the refusal
-unfoldable pub located_by : List ℕ → ℕ → Result ℕ Miss → Located
-located_by s kind (Ok i) = pick (eqb (header_at s i).kind kind) (At i) (Refused OtherKind)
-located_by s kind (Err F.Nil) = Refused NilTarget
-located_by s kind (Err F.Dead) = Refused DeadReference
-located_by s kind (Err F.Wrong) = Refused OtherKind
+unfoldable pub located_by : List ℕ → ℕ → Result ℕ Miss → Result ℕ Refusal
+located_by s kind (Ok i) = cond (eqb (header_at s i).kind kind) (Ok i) (Err OtherKind)
+located_by s kind (Err m) = Err (missing m)
 
-unfoldable pub located_in : List ℕ → ℕ → ℕ → ℕ → Located
+unfoldable pub located_in : List ℕ → ℕ → ℕ → ℕ → Result ℕ Refusal
 located_in s n w kind = located_by s kind (hit_first s n w)
 
 -- the number of each case
-unfoldable pub located_number : Located → ℕ
-located_number (At i) = 0
-located_number (Refused q) = number_of q
+unfoldable pub located_number : Result ℕ Refusal → ℕ
+located_number (Ok i) = 0
+located_number (Err q) = number_of q
 
 -- "1 .. nil", "11, dead reference", "2 another kind, or a word neither nil nor reference"
 unfoldable pub target_number : List ℕ → ℕ → Result ℕ Miss → ℕ
@@ -37,7 +30,7 @@ target_number s kind (Err F.Nil) = 1
 target_number s kind (Err F.Dead) = 11
 target_number s kind (Err F.Wrong) = 2
 
-pub record Locates (s : List ℕ) (n w kind : ℕ) (r : Located) : Type 0 where
+pub record Locates (s : List ℕ) (n w kind : ℕ) (r : Result ℕ Refusal) : Type 0 where
   pub is : r ≡ located_in s n w kind
   pub number : located_number r ≡ target_number s kind (hit_first s n w)
 

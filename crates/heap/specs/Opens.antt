@@ -1,6 +1,6 @@
 -- What opening promises (document 01, refusal 10): the number of cells is the length of the lent cells, the number of slots an argument; a lent
 -- buffer too short for them is 10 too, and nothing is written then. Buffers may hold anything before.
-use Rattle.std.specs.Prelude.{ℕ, ◌*◌, ◌≡◌, Bool, true, false, cond, ◌&&◌, List, ◌++◌, leb, drop, length, replicate}
+use Rattle.std.specs.Prelude.{ℕ, ◌*◌, ◌≡◌, Bool, true, false, cond, ◌&&◌, List, ◌++◌, leb, drop, length, replicate, Result, Ok, Err}
 use Rattle.std.proofs.Math.Option.{some}
 use Rattle.heap_slots.specs.Limits.{SLOT_WORDS}
 use Rattle.layout.specs.Sections.{Tabled, layout_of, table_of}
@@ -8,8 +8,7 @@ use Rattle.model.specs.Opening.{Opening, between, open_heap}
 use Rattle.model.specs.Terms.{is_some}
 use Rattle.model.specs.declared.Weights.{Weights}
 use Rattle.heap.specs.declared.Heap.{Heap}
-use Rattle.heap.specs.declared.Opened.{Opened}
-use Rattle.heap.specs.declared.Opened.TheVariants.{Ready, Refused}
+use Rattle.heap.specs.declared.Refusal.{Refusal}
 use Rattle.heap.specs.declared.Refusal.TheVariants.{BadOpening}
 use Rattle.heap.specs.Answers.{number_of}
 use Rattle.heap.specs.State.{State, model_of}
@@ -17,13 +16,13 @@ pub use Rattle.heap.specs.Record.{new_heap}
 use Rattle.heap.specs.Good.{Good, Rested}
 
 -- document 01's number of each case
-unfoldable pub opened_number : Opened → ℕ
-opened_number (Ready h) = 0
-opened_number (Refused q) = number_of q
+unfoldable pub opened_number : Result Heap Refusal → ℕ
+opened_number (Ok h) = 0
+opened_number (Err q) = number_of q
 
-unfoldable pub opened_by : Bool → Heap → Opened
-opened_by true h = Ready h
-opened_by false h = Refused BadOpening
+unfoldable pub opened_by : Bool → Heap → Result Heap Refusal
+opened_by true h = Ok h
+opened_by false h = Err BadOpening
 
 -- "weights are given at opening, 1 to 4,096"
 abbrev pub weights_fit : Weights → Bool
@@ -63,7 +62,7 @@ pub record Accepts (o : Opening) (t : State) (x y : Beside) : Type 0 where
   pub order : y.order ≡ cleared x.order (o.slots * 2)
 
 -- t: the new record over the buffers
-pub record Opens (o : Opening) (t : State) (x : Beside) (r : Opened) (y : Beside) : Type 0 where
+pub record Opens (o : Opening) (t : State) (x : Beside) (r : Result Heap Refusal) (y : Beside) : Type 0 where
   pub answer : r ≡ opened_by (accepts o t x) t.heap
   pub number : opened_number r ≡ cond (accepts o t x) 0 10
   pub accepted : accepts o t x ≡ true → Accepts o t x y

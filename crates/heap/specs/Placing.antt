@@ -1,5 +1,5 @@
 -- A new object (document 01, "Slot and object"): whether it is refused, and where it goes.
-use Rattle.std.specs.Prelude.{ℕ, ◌+◌, ◌-◌, ◌*◌, ◌≤◌, ◌<◌, ◌≡◌, cond, not, true, ◌||◌, List, [], ◌≢◌, eqb, leb, ltb, length, set, take, drop}
+use Rattle.std.specs.Prelude.{ℕ, ◌+◌, ◌-◌, ◌*◌, ◌≤◌, ◌<◌, ◌≡◌, cond, not, true, ◌||◌, List, [], ◌≢◌, eqb, leb, ltb, length, set, take, drop, Result, Ok, Err}
 use Rattle.account.specs.Account.{charged, fits}
 use Rattle.heap_slots.specs.Header.{set_header, with_half, with_place, with_region}
 use Rattle.heap_slots.specs.Kinds.{BOX, NONE}
@@ -10,22 +10,19 @@ use Rattle.heap_slots.specs.declared.Scalars.{Scalars}
 use Rattle.heap_cells.specs.Raw.{RawSlot, raw_of}
 use Rattle.layout.specs.Layout.{Layout}
 use Rattle.heap.specs.declared.Heap.{Heap}
-use Rattle.heap.specs.declared.Made.{Made}
-use Rattle.heap.specs.declared.Reading.{Reading}
-use Rattle.heap.specs.declared.Reading.TheVariants.{Is}
-use Rattle.heap.specs.declared.Done.{Done}
-use Rattle.heap.specs.declared.Done.TheVariants.{Accepted, Refused}
+use Rattle.heap.specs.declared.Refusal.{Refusal}
 use Rattle.heap.specs.declared.Refusal.TheVariants.{NoCells, NoSlot, OverBudget}
+use Rattle.heap.specs.Answers.{accepted}
 use Rattle.heap.specs.Record.{with_objects, with_regions}
 use Rattle.heap.specs.State.{State, model_of, more_of, with_placed}
 use Rattle.heap.specs.Good.{Good, SlotGood, coroutine_of}
 
 -- 5, 6, 7, in this order: a charge of `bytes`, and `size` more of the `total` cells
-unfoldable pub judged_new : Heap → ℕ → ℕ → ℕ → Done
+unfoldable pub judged_new : Heap → ℕ → ℕ → ℕ → Result Unit Refusal
 judged_new h total bytes size =
     cond (fits h.account bytes)
-    (cond (not (eqb h.free 0) || ltb h.fresh h.size) (cond (leb (h.taken + size) total) Accepted (Refused NoCells)) (Refused NoSlot))
-    (Refused OverBudget)
+    (cond (not (eqb h.free 0) || ltb h.fresh h.size) (cond (leb (h.taken + size) total) accepted (Err NoCells)) (Err NoSlot))
+    (Err OverBudget)
 
 -- "the slot freed last is used first; otherwise the next never-used slot"
 abbrev pub next_slot : State → ℕ
@@ -84,15 +81,15 @@ abbrev pub RegionObject : State → Header → Type 0
 RegionObject t h = Object h (next_region t h.size) (more_of t (next_slot t))
 
 -- the object is placed under the reference w; what holds between calls holds again
-pub record Places (next : State) (w : ℕ) (r : Reading) (a : State) : Type 0 where
+pub record Places (next : State) (w : ℕ) (r : Result ℕ Refusal) (a : State) : Type 0 where
   pub after : a ≡ next
-  pub answer : r ≡ Is w
+  pub answer : r ≡ Ok w
   pub good : Good a
 
-abbrev pub PlacesPlain : State → Header → ℕ → Reading → State → Type 0
+abbrev pub PlacesPlain : State → Header → ℕ → Result ℕ Refusal → State → Type 0
 PlacesPlain t h bytes r a = Places (placed_plain t h bytes) (new_word t h.kind) r a
 
-abbrev pub PlacesRegion : State → Header → ℕ → Reading → State → Type 0
+abbrev pub PlacesRegion : State → Header → ℕ → Result ℕ Refusal → State → Type 0
 PlacesRegion t h bytes r a = Places (placed_region t h bytes) (new_word t h.kind) r a
 
 -- from b to a no object has changed, and there is room for a region of `size` cells at the top
@@ -120,7 +117,7 @@ pub record Seatable (h : Heap) (s list : List ℕ) (bytes size : ℕ) : Type 0 w
   pub in_budget : fits h.account bytes ≡ true
 
 -- the header is placed, and the record has one object more; its region is the caller's care
-pub record Seats (h : Heap) (s list : List ℕ) (hd : Header) (bytes : ℕ) (r : Made) (s' : List ℕ) : Type 0 where
-  pub heap : r.heap ≡ grown_heap h hd.kind bytes hd.size h.top h.entries
+pub record Seats (h : Heap) (s list : List ℕ) (hd : Header) (bytes : ℕ) (r : Result ℕ Refusal) (h' : Heap) (s' : List ℕ) : Type 0 where
+  pub heap : h' ≡ grown_heap h hd.kind bytes hd.size h.top h.entries
   pub slots : s' ≡ set_header s (taken_slot list h.fresh h.free) (with_half hd (taken_half s list h.free + flag_of hd.kind))
-  pub answer : r.answer ≡ Is ((taken_half s list h.free + flag_of hd.kind) * SPAN + taken_slot list h.fresh h.free)
+  pub answer : r ≡ Ok ((taken_half s list h.free + flag_of hd.kind) * SPAN + taken_slot list h.fresh h.free)

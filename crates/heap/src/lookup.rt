@@ -2,25 +2,19 @@
 ghost use Rattle.heap_slots.specs.Limits.{HasSlots};
 ghost use Rattle.heap.specs.Locating.{Locates, Ranks};
 
-use crate::{Located, Refusal};
+use crate::Refusal;
 use heap_slots::{Miss, kinds};
 
 // The slot of the object of this kind that a word reaches; else 1, 11 or 2.
-pub fn locate(slots: &[u64], fresh: u64, w: u64, kind: u64) -> Located
+pub fn locate(slots: &[u64], fresh: u64, w: u64, kind: u64) -> Result<usize, Refusal>
     requires { HasSlots slots.now fresh }
     ensures { Locates slots.now fresh w kind result }
 {
-    match heap_slots::find(slots, fresh, w) {
-        Err(Miss::Nil) => Located::Refused(Refusal::NilTarget),
-        Err(Miss::Dead) => Located::Refused(Refusal::DeadReference),
-        Err(Miss::Wrong) => Located::Refused(Refusal::OtherKind),
-        Ok(i) => {
-            let h = heap_slots::read_header(slots, i);
-            if h.kind == kind {
-                return Located::At(i);
-            }
-            Located::Refused(Refusal::OtherKind)
-        }
+    let i = heap_slots::find(slots, fresh, w)?;
+    if heap_slots::read_header(slots, i).kind == kind {
+        Ok(i)
+    } else {
+        Err(Refusal::OtherKind)
     }
 }
 
@@ -30,12 +24,9 @@ pub fn row_at(slots: &[u64], fresh: u64, w: u64) -> u64
     ensures { Ranks slots.now fresh w result }
 {
     match heap_slots::find(slots, fresh, w) {
-        Err(Miss::Nil) => kinds::NONE,
+        Ok(i) => heap_slots::read_header(slots, i).kind,
         Err(Miss::Dead) => kinds::DEAD,
+        Err(Miss::Nil) => kinds::NONE,
         Err(Miss::Wrong) => kinds::NONE,
-        Ok(i) => {
-            let h = heap_slots::read_header(slots, i);
-            h.kind
-        }
     }
 }

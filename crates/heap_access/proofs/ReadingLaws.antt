@@ -1,4 +1,7 @@
 -- Readings of one object: a law for each form of answer. Assumes nothing.
+use Rattle.std.proofs.Common.{Result, Ok, Err}
+use Rattle.std.specs.Result.{IsErrAnd}
+use Rattle.std.proofs.lemmas.Result.{err_from_is_err_and}
 use Prim.Native.Nat.{ℕ, ◌+◌, ◌≤◌, ◌<◌}
 use mathlib.Core.Path.{◌≡◌, refl, ap, ◌∙◌}
 use mathlib.Core.Bool.{Bool}
@@ -7,6 +10,7 @@ use native.Mathlib.Omega.{arith}
 use lib.ListN.{get_or, length, take}
 use lib.Seq.{get_or-take}
 use Rattle.heap_slots.specs.Header.{header_at}
+use Rattle.heap_slots.specs.declared.Header.{Header}
 use Rattle.heap_slots.specs.declared.Scalars.{Scalars}
 use Rattle.heap_slots.proofs.Cases.{by_cases, lt_or_le}
 use Rattle.heap_cells.specs.Regions.{RawSlot, raw_at}
@@ -15,22 +19,18 @@ use Rattle.history.proofs.Facts.{ltb_no, ltb_yes}
 use Rattle.layout.specs.Layout.{Layout}
 use Rattle.model.specs.Content.{Content}
 use Rattle.model.specs.Calls.{Call, effect, same}
-use Rattle.model.specs.Replies.{Reply, no_memory, number}
+use Rattle.model.specs.Replies.{Answer, Reply, no_memory, number, reply}
 use Rattle.model.specs.Model.{Model, view_of}
 use Rattle.model.specs.Refusals.{inside, target}
 use Rattle.model.specs.Terms.{a_coroutine, a_function, a_struct, an_array, captures, fields, items, registers, terms, uncharged}
 use Rattle.heap.proofs.GoodLaws.{holds_as}
 use Rattle.heap.proofs.LocateLaws.{locates_so}
-use Rattle.heap.specs.Answers.{answered, reading_is, refused}
+use Rattle.heap.specs.Answers.{reading_is, refused, seen_by}
 use Rattle.heap.specs.Locating.{Locates}
 use Rattle.heap.specs.State.{State, model_of, more_of, raw_of}
 use Rattle.heap.specs.Good.{Good, SlotGood}
 use Rattle.heap.specs.Promise.{Reads}
-use Rattle.heap.specs.declared.Located.{Located}
-use Rattle.heap.specs.declared.Located.TheVariants as L
 use Rattle.heap.specs.declared.Refusal.{Refusal}
-use Rattle.heap.specs.declared.Reading.{Reading}
-use Rattle.heap.specs.declared.Reading.TheVariants as Read
 use Rattle.heap.proofs.KindLaws.{Says, says_array, says_coroutine, says_function, says_struct, words-length}
 use Rattle.heap.proofs.SlotLaws.{raw-length}
 use Rattle.heap.proofs.ReachLaws.{Target, located_at}
@@ -41,24 +41,39 @@ use Rattle.heap_access.proofs.ObjectLaws.{by_object}
 -- ---- the object, or the refusal
 
 module _ {t : State} {w kind : ℕ} {is : Content → Bool} (g : Good t) (s : Says is kind) (k : Call) where
-  module _ {r : Located} (d : Locates t.slots t.heap.fresh w kind r) where
-    pub reads_refused : {q : Refusal} {rest : Layout → List ℕ} → r ≡ L.Refused q → ((l : Layout) → (terms (model_of l t) k).refusals ≡ target (view_of (model_of l t)) is w ∷ rest l) →
+  module _ {r : Result ℕ Refusal} (d : Locates t.slots t.heap.fresh w kind r) where
+    pub reads_refused : {q : Refusal} {rest : Layout → List ℕ} → r ≡ Err q → ((l : Layout) → (terms (model_of l t) k).refusals ≡ target (view_of (model_of l t)) is w ∷ rest l) →
         ((l : Layout) → (terms (model_of l t) k).lent_before ≡ no_memory) → Reads k t (refused q)
     reads_refused e h b l = object-refused l g k d e s (h l) (b l)
 
-    pub reads_answered : {i : ℕ} {b : Layout → Reply} {a : Reply} → r ≡ L.At i → ((l : Layout) → effect (view_of (model_of l t)) k ≡ same) → ((l : Layout) → terms (model_of l t) k ≡ uncharged (target (view_of (model_of l t)) is w ∷ []) (b l)) →
-        ((l : Layout) → Target t w i kind → b l ≡ a) → Reads k t (answered a)
-    unfolding uncharged
-    reads_answered e f h p l = let o = located_at g d e in object-answered l g k o s (rw (h l)) (f l) (rw (h l)) (rw (h l)) (rw (h l) (p l o))
-
-  -- a number of the object
-  pub number_read : {f : ℕ → ℕ} {r : Reading} {a : Layout → ℕ} → OnObject t.slots t.heap.fresh w kind Read.Refused (λ i. Read.Is (f i)) r → ((l : Layout) → effect (view_of (model_of l t)) k ≡ same) →
-      ((l : Layout) → terms (model_of l t) k ≡ uncharged (target (view_of (model_of l t)) is w ∷ []) (number (a l))) → ((l : Layout) (i : ℕ) → Target t w i kind → a l ≡ f i) → Reads k t (reading_is r)
-  unfolding reading_is uncharged
-  number_read d e h p =
-      by_object (λ (x : Reading). Reads k t (reading_is x)) d
+  -- what was read of the object, and what is said of it
+  pub reads_shown : {B : Type 0} {here : ℕ → B} (says : B → Reply) {x : Result B Refusal} {a : Layout → Reply} → OnObject t.slots t.heap.fresh w kind Err (λ i. Ok (here i)) x → ((l : Layout) → effect (view_of (model_of l t)) k ≡ same) →
+      ((l : Layout) → terms (model_of l t) k ≡ uncharged (target (view_of (model_of l t)) is w ∷ []) (a l)) → ((l : Layout) (i : ℕ) → Target t w i kind → a l ≡ says (here i)) → Reads k t (seen_by (λ b. reply (says b)) x)
+  unfolding seen_by uncharged
+  reads_shown {B} says d e h p =
+      by_object (λ (x : Result B Refusal). Reads k t (seen_by (λ b. reply (says b)) x)) d
       (λ q z. reads_refused (locates_so refl) {rest = λ l. []} z (λ l. rw (h l)) (λ l. rw (h l)))
-      (λ i z. reads_answered (locates_so refl) z e h (λ l o. ap number (p l i o)))
+      (λ i z l. let o = located_at g (locates_so refl) z in object-answered l g k o s (rw (h l)) (e l) (rw (h l)) (rw (h l)) (rw (h l) (p l i o)))
+
+  -- a number of it
+  pub number_read : {B : Type 0} {here : ℕ → B} (word : B → ℕ) {x : Result B Refusal} {a : Layout → ℕ} → OnObject t.slots t.heap.fresh w kind Err (λ i. Ok (here i)) x → ((l : Layout) → effect (view_of (model_of l t)) k ≡ same) →
+      ((l : Layout) → terms (model_of l t) k ≡ uncharged (target (view_of (model_of l t)) is w ∷ []) (number (a l))) → ((l : Layout) (i : ℕ) → Target t w i kind → a l ≡ word (here i)) → Reads k t (seen_by (λ b. reply (number (word b))) x)
+  number_read word d e h p = reads_shown (λ b. number (word b)) d e h (λ l i o. ap number (p l i o))
+
+-- ---- the exits of a call that shows what another found
+
+module _ {t : State} {k : Call} {B C : Type 0} (f : B → Answer) (says : C → Answer) {x : Result B Refusal} (d : Reads k t (seen_by f x)) where
+  pub shown_ok : {b : B} {c : C} → x ≡ Ok b → says c ≡ f b → Reads k t (seen_by says (Ok c))
+  unfolding seen_by
+  shown_ok e p = rw p (rw e at d)
+
+  pub shown_err : {q : Refusal} → x ≡ Err q → Reads k t (seen_by says (Err q))
+  unfolding seen_by
+  shown_err e = rw e at d
+
+  -- where `?` passes the refusal on
+  pub passed_on : {q : Refusal} (r : Result C Refusal) → x ≡ Err q → IsErrAnd r (λ e. e ≡ q) → Reads k t (seen_by says r)
+  passed_on r e h = let p = err_from_is_err_and r h in rw (p.1, p.2) (shown_err e)
 
 -- ---- the words in an object's cells
 
@@ -108,16 +123,16 @@ module _ {t : State} {kind : ℕ} {is : Content → Bool} {ws : Model → ℕ �
 
 module _ {t : State} {w kind : ℕ} {is : Content → Bool} {ws : Model → ℕ → List ℕ} (g : Good t) (v : WordsOf kind is ws) (k : Call) (e : (l : Layout) → effect (view_of (model_of l t)) k ≡ same) where
   -- how many there are
-  pub count_read : {r : Reading} → ReadsHeader (λ h. h.len) t.slots t.heap.fresh w kind r →
-      ((l : Layout) → terms (model_of l t) k ≡ uncharged (target (view_of (model_of l t)) is w ∷ []) (number (length (ws (model_of l t) w)))) → Reads k t (reading_is r)
-  count_read d h = number_read g v.says k d e h (λ l i o. words_count g v o l)
+  pub count_read : {x : Result Header Refusal} → ReadsHeader t.slots t.heap.fresh w kind x →
+      ((l : Layout) → terms (model_of l t) k ≡ uncharged (target (view_of (model_of l t)) is w ∷ []) (number (length (ws (model_of l t) w)))) → Reads k t (seen_by (λ h. reply (number h.len)) x)
+  count_read d h = number_read g v.says k (λ h. h.len) d e h (λ l i o. words_count g v o l)
 
   -- one of them; 3 outside
-  pub word_read : (p : ℕ) {r : Reading} → ReadsWord t.slots t.cells t.heap.fresh w kind p r →
+  pub word_read : (p : ℕ) {r : Result ℕ Refusal} → ReadsWord t.slots t.cells t.heap.fresh w kind p r →
       ((l : Layout) → terms (model_of l t) k ≡ uncharged (target (view_of (model_of l t)) is w ∷ inside p (length (ws (model_of l t) w)) ∷ []) (number (get_or (ws (model_of l t) w) p 0))) → Reads k t (reading_is r)
-  unfolding reading_is uncharged word_at
+  unfolding seen_by uncharged word_at
   word_read p d h =
-      by_object (λ (x : Reading). Reads k t (reading_is x)) d
+      by_object (λ (x : Result ℕ Refusal). Reads k t (reading_is x)) d
       (λ q z. reads_refused g v.says k (locates_so refl) {rest = λ l. inside p (length (ws (model_of l t) w)) ∷ []} z (λ l. rw (h l)) (λ l. rw (h l)))
       (λ i z l.
       let o = located_at g (locates_so refl) z in

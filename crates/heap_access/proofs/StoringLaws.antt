@@ -1,4 +1,6 @@
 -- Stores to one object that need no more room. Assumes nothing.
+use Rattle.std.proofs.Common.{Result, Err}
+use Rattle.heap.specs.declared.Refusal.{Refusal}
 use Prim.Native.Nat.{ℕ, ◌+◌, ◌*◌, ◌≤◌, ◌<◌}
 use mathlib.Core.Path.{◌≡◌, refl, sym, ◌∙◌}
 use mathlib.Core.Bool.{Bool, false, true}
@@ -23,13 +25,11 @@ use Rattle.model.specs.Terms.{terms, uncharged}
 use Rattle.heap_cells.specs.Raw.{raw_cells, raw_words}
 use Rattle.heap.proofs.GoodLaws.{good-kept}
 use Rattle.heap.proofs.LocateLaws.{locates_so}
-use Rattle.heap.specs.Answers.{done_is}
+use Rattle.heap.specs.Answers.{accepted, done_is, seen_by}
 use Rattle.heap.specs.Kinds.{content_of, room_of}
 use Rattle.heap.specs.State.{State, model_of, more_of, raw_of, with_cells, with_scalars, with_slots}
 use Rattle.heap.specs.Good.{Good, SlotGood}
 use Rattle.heap.specs.Promise.{Performs}
-use Rattle.heap.specs.declared.Done.{Done}
-use Rattle.heap.specs.declared.Done.TheVariants as Do
 use Rattle.heap.proofs.KindLaws.{Says}
 use Rattle.heap.proofs.ReachLaws.{Target, located_at, scalars_fit, slot-fits}
 use Rattle.heap.proofs.ReadLaws.{object-outside, object_passes, object_passes_inside, object-refused}
@@ -110,20 +110,20 @@ module _ {b : State} {w i kind : ℕ} {p : Content → Content} (g : Good b) (o 
 
 -- the buffer `old` of b became `new`, which `put` puts in its place
 module _ {b : State} {w kind : ℕ} {is : Content → Bool} (g : Good b) (s : Says is kind) (k : Call) (put : List ℕ → State) where
-  pub stores-object : {old new : List ℕ} {here : ℕ → Write} {r : Done} {rest : Layout → List ℕ} → put old ≡ b → OnObject b.slots b.heap.fresh w kind (λ q. write (Do.Refused q) old) here (write r new) →
+  pub stores-object : {old new : List ℕ} {here : ℕ → Write} {r : Result Unit Refusal} {rest : Layout → List ℕ} → put old ≡ b → OnObject b.slots b.heap.fresh w kind (λ q. write (Err q) old) here (write r new) →
       ((l : Layout) → (terms (model_of l b) k).refusals ≡ target (view_of (model_of l b)) is w ∷ rest l) → ((l : Layout) → (terms (model_of l b) k).lent_before ≡ no_memory) →
       ((i : ℕ) → Target b w i kind → Performs k b (done_is (here i).done) (put (here i).words)) → Performs k b (done_is r) (put new)
-  unfolding done_is
+  unfolding seen_by
   stores-object {rest = rest} e d h x p =
       by_object (λ (y : Write). Performs k b (done_is y.done) (put y.words)) d
       (λ q z l. rw e (object-refused l g k {rest = rest l} (locates_so refl) z s (h l) (x l)))
       (λ i z. p i (located_at g (locates_so refl) z))
 
   -- a store that nothing but the object can refuse
-  pub stores-free : {old new : List ℕ} {f : ℕ → List ℕ} {r : Done} (p : Content → Content) → put old ≡ b → OnObject b.slots b.heap.fresh w kind (λ q. write (Do.Refused q) old) (λ i. write Do.Accepted (f i)) (write r new) →
+  pub stores-free : {old new : List ℕ} {f : ℕ → List ℕ} {r : Result Unit Refusal} (p : Content → Content) → put old ≡ b → OnObject b.slots b.heap.fresh w kind (λ q. write (Err q) old) (λ i. write accepted (f i)) (write r new) →
       ((l : Layout) → effect (view_of (model_of l b)) k ≡ store w p) → ((l : Layout) → terms (model_of l b) k ≡ uncharged (target (view_of (model_of l b)) is w ∷ []) nothing) →
       ((ws : List ℕ) → (put ws).heap.account ≡ b.heap.account) → ((i : ℕ) → Target b w i kind → Stored b (put (f i)) i p same_room) → Performs k b (done_is r) (put new)
-  unfolding done_is uncharged
+  unfolding seen_by uncharged
   stores-free {f = f} p e d y h n q =
       stores-object {rest = λ l. []} e d (λ l. rw (h l)) (λ l. rw (h l))
       (λ i o l. does_stored_free l g o.reached (q i o) k (y l) (rw (h l)) (n (f i)) (object_passes l g k o s (rw (h l))) (rw (h l)) (rw (h l)))
@@ -141,9 +141,9 @@ module _ {b : State} {w i kind : ℕ} {is : Content → Bool} {ws : Model → �
 
 module _ {b : State} {w kind : ℕ} {is : Content → Bool} {ws : Model → ℕ → List ℕ} {put : ℕ → ℕ → Content → Content} (g : Good b) (words : WordsOf kind is ws) (rule : WordRule kind put) (s : Simple kind) (k : Call) where
   -- 3 outside
-  pub word-store : (p v : ℕ) {r : Done} {new : List ℕ} → StoresWord b.slots b.cells b.heap.fresh w kind p v r new → ((l : Layout) → effect (view_of (model_of l b)) k ≡ store w (put p v)) →
+  pub word-store : (p v : ℕ) {r : Result Unit Refusal} {new : List ℕ} → StoresWord b.slots b.cells b.heap.fresh w kind p v r new → ((l : Layout) → effect (view_of (model_of l b)) k ≡ store w (put p v)) →
       ((l : Layout) → terms (model_of l b) k ≡ uncharged (target (view_of (model_of l b)) is w ∷ inside p (length (ws (model_of l b) w)) ∷ []) nothing) → Performs k b (done_is r) (with_cells b new)
-  unfolding done_is uncharged write_word
+  unfolding seen_by uncharged write_word
   word-store p v d e h =
       stores-object g words.says k (with_cells b) {rest = λ l. inside p (length (ws (model_of l b) w)) ∷ []} refl d (λ l. rw (h l)) (λ l. rw (h l))
       (λ i o l.

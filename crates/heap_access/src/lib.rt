@@ -3,13 +3,3 @@
 
 pub mod readings;
 pub mod stores;
-
-use heap::Refusal;
-use model::Frame;
-
-// A coroutine's frame read.
-#[derive(Clone, Copy)]
-pub enum FrameRead {
-    Is(Frame),
-    Refused(Refusal),
-}

@@ -1,44 +1,52 @@
 // Stores that keep an object's length.
-ghost use Rattle.std.specs.Prelude.{◌+◌, ◌*◌, ◌≤◌, ◌<◌, length};
+ghost use Rattle.std.specs.Prelude.{◌≡◌, ◌+◌, ◌*◌, ◌≤◌, ◌<◌, length};
+ghost use Rattle.account.specs.Account.{charged, fits};
 ghost use Rattle.heap_slots.specs.Limits.{HasSlots, SLOT_WORDS, SLOTS_MAX};
 ghost use Rattle.model.specs.Calls as Calls;
 ghost use Rattle.model.specs.Rules as Parts;
 ghost use Rattle.heap.specs.Answers.{done_is};
-ghost use Rattle.heap_access.specs.Objects.{StoresScalar, StoresValue, StoresWord, WordsFit};
+ghost use Rattle.heap_access.specs.Objects.{StoresHeader, StoresScalar, StoresWord, WordsFit};
 ghost use Rattle.heap.specs.State.{state};
 ghost use Rattle.heap.specs.Good.{Good};
 ghost use Rattle.heap.specs.Promise.{Performs};
 
-use heap::{Done, Heap, Located, Refusal, lookup};
+use account::Account;
+use heap::{Heap, Refusal, lookup};
 use heap_slots::limits::SLOT_WORDS;
 use heap_slots::{KEY, MODE, PAYLOAD, RESULT, SIGNAL, VALUE, kinds};
 
-// A new value in the header of an object of this kind.
-fn store_value(slots: &mut [u64], fresh: u64, w: u64, kind: u64, v: u64) -> Done
-    requires { HasSlots slots.old fresh }
-    ensures { StoresValue slots.old fresh w kind v result slots.new }
+// A new word K in the header of an object of this kind.
+fn store_header_word<const K: usize>(
+    slots: &mut [u64],
+    fresh: u64,
+    w: u64,
+    kind: u64,
+    v: u64,
+) -> Result<(), Refusal>
+    requires slots { HasSlots slots.old fresh }
+    requires word { K < SLOT_WORDS }
+    ensures { StoresHeader slots.old fresh w kind K v result slots.new }
 {
-    match lookup::locate(slots, fresh, w, kind) {
-        Located::Refused(q) => Done::Refused(q),
-        Located::At(i) => {
-            heap_slots::set_word::<VALUE>(slots, i, v);
-            Done::Accepted
-        }
-    }
+    let i = lookup::locate(slots, fresh, w, kind)?;
+    heap_slots::set_word::<K>(slots, i, v);
+    Ok(())
 }
 
 // Word k of a coroutine's scalars.
-fn store_scalar(slots: &[u64], scalars: &mut [u64], fresh: u64, w: u64, k: usize, v: u64) -> Done
+fn store_scalar(
+    slots: &[u64],
+    scalars: &mut [u64],
+    fresh: u64,
+    w: u64,
+    k: usize,
+    v: u64,
+) -> Result<(), Refusal>
     requires { (fresh ≤ SLOTS_MAX) × (fresh * SLOT_WORDS ≤ length slots.now) × (fresh * SLOT_WORDS ≤ length scalars.old) × (k < SLOT_WORDS) }
     ensures { StoresScalar slots.now scalars.old fresh w k v result scalars.new }
 {
-    match lookup::locate(slots, fresh, w, kinds::COROUTINE) {
-        Located::Refused(q) => Done::Refused(q),
-        Located::At(i) => {
-            scalars[i * SLOT_WORDS + k] = v;
-            Done::Accepted
-        }
-    }
+    let i = lookup::locate(slots, fresh, w, kinds::COROUTINE)?;
+    scalars[i * SLOT_WORDS + k] = v;
+    Ok(())
 }
 
 // Word i of an object's cells: fields, captures, registers.
@@ -50,27 +58,30 @@ fn store_word(
     kind: u64,
     i: u64,
     v: u64,
-) -> Done
+) -> Result<(), Refusal>
     requires { WordsFit slots.now cells.old fresh kind }
     ensures { StoresWord slots.now cells.old fresh w kind i v result cells.new }
 {
-    match lookup::locate(slots, fresh, w, kind) {
-        Located::Refused(q) => Done::Refused(q),
-        Located::At(at) => {
-            let h = heap_slots::read_header(slots, at);
-            if h.len <= i {
-                return Done::Refused(Refusal::Outside);
-            }
-            let p = (h.start + i) as usize;
-            cells[p] = v;
-            Done::Accepted
-        }
+    let at = lookup::locate(slots, fresh, w, kind)?;
+    let h = heap_slots::read_header(slots, at);
+    if h.len <= i {
+        return Err(Refusal::Outside);
     }
+    cells[(h.start + i) as usize] = v;
+    Ok(())
+}
+
+// Whether a charge of zero bytes is accepted. It leaves the account as it was.
+fn allows_nothing(account: Account) -> bool
+    ensures accepted { result ≡ fits account 0 }
+    ensures unchanged { charged account 0 ≡ account }
+{
+    account.allows(0)
 }
 
 // A new word for a cell or a box.
 pub fn store_cell(
-    heap: Heap,
+    heap: &Heap,
     slots: &mut [u64],
     scalars: &[u64],
     list: &[u64],
@@ -78,15 +89,15 @@ pub fn store_cell(
     cells: &[u64],
     w: u64,
     v: u64,
-) -> Done
-    requires { Good (state heap slots.old scalars.now list.now directory.now cells.now) }
-    ensures { Performs (Calls.store_cell w v) (state heap slots.old scalars.now list.now directory.now cells.now) (done_is result) (state heap slots.new scalars.now list.now directory.now cells.now) }
+) -> Result<(), Refusal>
+    requires { Good (state heap.now slots.old scalars.now list.now directory.now cells.now) }
+    ensures { Performs (Calls.store_cell w v) (state heap.now slots.old scalars.now list.now directory.now cells.now) (done_is result) (state heap.now slots.new scalars.now list.now directory.now cells.now) }
 {
-    store_value(slots, heap.fresh, w, kinds::CELL, v)
+    store_header_word::<VALUE>(slots, heap.fresh, w, kinds::CELL, v)
 }
 
 pub fn store_box(
-    heap: Heap,
+    heap: &Heap,
     slots: &mut [u64],
     scalars: &[u64],
     list: &[u64],
@@ -94,16 +105,16 @@ pub fn store_box(
     cells: &[u64],
     w: u64,
     v: u64,
-) -> Done
-    requires { Good (state heap slots.old scalars.now list.now directory.now cells.now) }
-    ensures { Performs (Calls.store_box w v) (state heap slots.old scalars.now list.now directory.now cells.now) (done_is result) (state heap slots.new scalars.now list.now directory.now cells.now) }
+) -> Result<(), Refusal>
+    requires { Good (state heap.now slots.old scalars.now list.now directory.now cells.now) }
+    ensures { Performs (Calls.store_box w v) (state heap.now slots.old scalars.now list.now directory.now cells.now) (done_is result) (state heap.now slots.new scalars.now list.now directory.now cells.now) }
 {
-    store_value(slots, heap.fresh, w, kinds::BOX, v)
+    store_header_word::<VALUE>(slots, heap.fresh, w, kinds::BOX, v)
 }
 
 // Field, capture and register i: 3 outside.
 pub fn store_field(
-    heap: Heap,
+    heap: &Heap,
     slots: &[u64],
     scalars: &[u64],
     list: &[u64],
@@ -112,15 +123,15 @@ pub fn store_field(
     w: u64,
     i: u64,
     v: u64,
-) -> Done
-    requires { Good (state heap slots.now scalars.now list.now directory.now cells.old) }
-    ensures { Performs (Calls.store_field w i v) (state heap slots.now scalars.now list.now directory.now cells.old) (done_is result) (state heap slots.now scalars.now list.now directory.now cells.new) }
+) -> Result<(), Refusal>
+    requires { Good (state heap.now slots.now scalars.now list.now directory.now cells.old) }
+    ensures { Performs (Calls.store_field w i v) (state heap.now slots.now scalars.now list.now directory.now cells.old) (done_is result) (state heap.now slots.now scalars.now list.now directory.now cells.new) }
 {
     store_word(slots, cells, heap.fresh, w, kinds::STRUCT, i, v)
 }
 
 pub fn store_capture(
-    heap: Heap,
+    heap: &Heap,
     slots: &[u64],
     scalars: &[u64],
     list: &[u64],
@@ -129,15 +140,15 @@ pub fn store_capture(
     w: u64,
     i: u64,
     v: u64,
-) -> Done
-    requires { Good (state heap slots.now scalars.now list.now directory.now cells.old) }
-    ensures { Performs (Calls.store_capture w i v) (state heap slots.now scalars.now list.now directory.now cells.old) (done_is result) (state heap slots.now scalars.now list.now directory.now cells.new) }
+) -> Result<(), Refusal>
+    requires { Good (state heap.now slots.now scalars.now list.now directory.now cells.old) }
+    ensures { Performs (Calls.store_capture w i v) (state heap.now slots.now scalars.now list.now directory.now cells.old) (done_is result) (state heap.now slots.now scalars.now list.now directory.now cells.new) }
 {
     store_word(slots, cells, heap.fresh, w, kinds::FUNCTION, i, v)
 }
 
 pub fn store_register(
-    heap: Heap,
+    heap: &Heap,
     slots: &[u64],
     scalars: &[u64],
     list: &[u64],
@@ -146,16 +157,16 @@ pub fn store_register(
     w: u64,
     i: u64,
     v: u64,
-) -> Done
-    requires { Good (state heap slots.now scalars.now list.now directory.now cells.old) }
-    ensures { Performs (Calls.store_register w i v) (state heap slots.now scalars.now list.now directory.now cells.old) (done_is result) (state heap slots.now scalars.now list.now directory.now cells.new) }
+) -> Result<(), Refusal>
+    requires { Good (state heap.now slots.now scalars.now list.now directory.now cells.old) }
+    ensures { Performs (Calls.store_register w i v) (state heap.now slots.now scalars.now list.now directory.now cells.old) (done_is result) (state heap.now slots.now scalars.now list.now directory.now cells.new) }
 {
     store_word(slots, cells, heap.fresh, w, kinds::COROUTINE, i, v)
 }
 
 // A new word for a coroutine.
 pub fn store_payload(
-    heap: Heap,
+    heap: &Heap,
     slots: &[u64],
     scalars: &mut [u64],
     list: &[u64],
@@ -163,15 +174,15 @@ pub fn store_payload(
     cells: &[u64],
     w: u64,
     v: u64,
-) -> Done
-    requires { Good (state heap slots.now scalars.old list.now directory.now cells.now) }
-    ensures { Performs (Calls.store_part w Parts.payload v) (state heap slots.now scalars.old list.now directory.now cells.now) (done_is result) (state heap slots.now scalars.new list.now directory.now cells.now) }
+) -> Result<(), Refusal>
+    requires { Good (state heap.now slots.now scalars.old list.now directory.now cells.now) }
+    ensures { Performs (Calls.store_part w Parts.payload v) (state heap.now slots.now scalars.old list.now directory.now cells.now) (done_is result) (state heap.now slots.now scalars.new list.now directory.now cells.now) }
 {
     store_scalar(slots, scalars, heap.fresh, w, PAYLOAD, v)
 }
 
 pub fn store_key(
-    heap: Heap,
+    heap: &Heap,
     slots: &[u64],
     scalars: &mut [u64],
     list: &[u64],
@@ -179,15 +190,15 @@ pub fn store_key(
     cells: &[u64],
     w: u64,
     v: u64,
-) -> Done
-    requires { Good (state heap slots.now scalars.old list.now directory.now cells.now) }
-    ensures { Performs (Calls.store_part w Parts.key v) (state heap slots.now scalars.old list.now directory.now cells.now) (done_is result) (state heap slots.now scalars.new list.now directory.now cells.now) }
+) -> Result<(), Refusal>
+    requires { Good (state heap.now slots.now scalars.old list.now directory.now cells.now) }
+    ensures { Performs (Calls.store_part w Parts.key v) (state heap.now slots.now scalars.old list.now directory.now cells.now) (done_is result) (state heap.now slots.now scalars.new list.now directory.now cells.now) }
 {
     store_scalar(slots, scalars, heap.fresh, w, KEY, v)
 }
 
 pub fn store_result(
-    heap: Heap,
+    heap: &Heap,
     slots: &[u64],
     scalars: &mut [u64],
     list: &[u64],
@@ -195,15 +206,15 @@ pub fn store_result(
     cells: &[u64],
     w: u64,
     v: u64,
-) -> Done
-    requires { Good (state heap slots.now scalars.old list.now directory.now cells.now) }
-    ensures { Performs (Calls.store_part w Parts.result v) (state heap slots.now scalars.old list.now directory.now cells.now) (done_is result) (state heap slots.now scalars.new list.now directory.now cells.now) }
+) -> Result<(), Refusal>
+    requires { Good (state heap.now slots.now scalars.old list.now directory.now cells.now) }
+    ensures { Performs (Calls.store_part w Parts.result v) (state heap.now slots.now scalars.old list.now directory.now cells.now) (done_is result) (state heap.now slots.now scalars.new list.now directory.now cells.now) }
 {
     store_scalar(slots, scalars, heap.fresh, w, RESULT, v)
 }
 
 pub fn store_signal(
-    heap: Heap,
+    heap: &Heap,
     slots: &[u64],
     scalars: &mut [u64],
     list: &[u64],
@@ -211,16 +222,16 @@ pub fn store_signal(
     cells: &[u64],
     w: u64,
     v: u64,
-) -> Done
-    requires { Good (state heap slots.now scalars.old list.now directory.now cells.now) }
-    ensures { Performs (Calls.store_part w Parts.signal v) (state heap slots.now scalars.old list.now directory.now cells.now) (done_is result) (state heap slots.now scalars.new list.now directory.now cells.now) }
+) -> Result<(), Refusal>
+    requires { Good (state heap.now slots.now scalars.old list.now directory.now cells.now) }
+    ensures { Performs (Calls.store_part w Parts.signal v) (state heap.now slots.now scalars.old list.now directory.now cells.now) (done_is result) (state heap.now slots.now scalars.new list.now directory.now cells.now) }
 {
     store_scalar(slots, scalars, heap.fresh, w, SIGNAL, v)
 }
 
 // A new state for a coroutine; 4 for one above 4, before the coroutine is looked for.
 pub fn set_state(
-    heap: Heap,
+    heap: &Heap,
     slots: &mut [u64],
     scalars: &[u64],
     list: &[u64],
@@ -228,25 +239,19 @@ pub fn set_state(
     cells: &[u64],
     w: u64,
     s: u64,
-) -> Done
-    requires { Good (state heap slots.old scalars.now list.now directory.now cells.now) }
-    ensures { Performs (Calls.set_state w s) (state heap slots.old scalars.now list.now directory.now cells.now) (done_is result) (state heap slots.new scalars.now list.now directory.now cells.now) }
+) -> Result<(), Refusal>
+    requires { Good (state heap.now slots.old scalars.now list.now directory.now cells.now) }
+    ensures { Performs (Calls.set_state w s) (state heap.now slots.old scalars.now list.now directory.now cells.now) (done_is result) (state heap.now slots.new scalars.now list.now directory.now cells.now) }
 {
     if 4 < s {
-        return Done::Refused(Refusal::BadType);
+        return Err(Refusal::BadType);
     }
-    match lookup::locate(slots, heap.fresh, w, kinds::COROUTINE) {
-        Located::Refused(q) => Done::Refused(q),
-        Located::At(i) => {
-            heap_slots::set_word::<MODE>(slots, i, s);
-            Done::Accepted
-        }
-    }
+    store_header_word::<MODE>(slots, heap.fresh, w, kinds::COROUTINE, s)
 }
 
 // Outside the length nothing changes; a charge of zero bytes is made all the same.
 pub fn store_item(
-    heap: Heap,
+    heap: &Heap,
     slots: &[u64],
     scalars: &[u64],
     list: &[u64],
@@ -255,23 +260,17 @@ pub fn store_item(
     w: u64,
     i: u64,
     v: u64,
-) -> Done
-    requires { Good (state heap slots.now scalars.now list.now directory.now cells.old) }
-    ensures { Performs (Calls.store_item w i v) (state heap slots.now scalars.now list.now directory.now cells.old) (done_is result) (state heap slots.now scalars.now list.now directory.now cells.new) }
+) -> Result<(), Refusal>
+    requires { Good (state heap.now slots.now scalars.now list.now directory.now cells.old) }
+    ensures { Performs (Calls.store_item w i v) (state heap.now slots.now scalars.now list.now directory.now cells.old) (done_is result) (state heap.now slots.now scalars.now list.now directory.now cells.new) }
 {
-    match lookup::locate(slots, heap.fresh, w, kinds::ARRAY) {
-        Located::Refused(q) => Done::Refused(q),
-        Located::At(at) => {
-            if !heap.account.allows(0) {
-                return Done::Refused(Refusal::OverBudget);
-            }
-            let h = heap_slots::read_header(slots, at);
-            if h.len <= i {
-                return Done::Accepted;
-            }
-            let p = (h.start + i) as usize;
-            cells[p] = v;
-            Done::Accepted
-        }
+    let at = lookup::locate(slots, heap.fresh, w, kinds::ARRAY)?;
+    if !allows_nothing(heap.account) {
+        return Err(Refusal::OverBudget);
     }
+    let h = heap_slots::read_header(slots, at);
+    if i < h.len {
+        cells[(h.start + i) as usize] = v;
+    }
+    Ok(())
 }

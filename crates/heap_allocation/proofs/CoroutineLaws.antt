@@ -1,5 +1,6 @@
 -- Coroutines: placed with scalars and registers, then the frames are copied in. Assumes nothing.
-use Prim.Native.Nat.{ℕ, zero, suc, ◌+◌, ◌*◌, ◌-◌, ◌/◌, ◌≤◌, ◌<◌}
+use Rattle.std.proofs.Common.{Result, Ok, Err}
+use Prim.Native.Nat.{ℕ, zero, suc, ◌+◌, ◌*◌, ◌/◌, ◌≤◌, ◌<◌}
 use mathlib.Core.Path.{◌≡◌, refl, ap, sym, ◌∙◌}
 use mathlib.Core.Logic.{inl, inr}
 use mathlib.Core.Bool.{Bool, true, false, cond}
@@ -7,7 +8,7 @@ use mathlib.Core.List.{List, [], ◌∷◌}
 use native.Mathlib.Omega.{arith}
 use lib.Dec.{eqb}
 use lib.ListN.{length, get_or, take, drop, length-take, length-drop}
-use lib.Seq.{ext_get_or, get_or-drop, get_or-take, take_all}
+use lib.Seq.{ext_get_or, get_or-drop, get_or-take}
 use Rattle.heap_slots.specs.Limits.{CELLS_MAX, HALF}
 use Rattle.account.specs.Account.{saturated}
 use Rattle.account.specs.AccountLaws.{saturated-below}
@@ -22,15 +23,11 @@ use Rattle.model.specs.Content.{Content, bytes_of, cells_of, coroutine}
 use Rattle.model.specs.Refusals.{state_4}
 use Rattle.model.specs.Terms.{terms}
 use Rattle.model.specs.declared.Frame.{Frame}
-use Rattle.heap.specs.declared.Done.{Done}
-use Rattle.heap.specs.declared.Done.TheVariants as Do
-use Rattle.heap.specs.declared.Reading.{Reading}
-use Rattle.heap.specs.declared.Reading.TheVariants as Read
 use Rattle.heap.specs.declared.Refusal.{Refusal}
 use Rattle.heap.specs.declared.Refusal.TheVariants as No
-use Rattle.heap.specs.Answers.{made_is}
-use Rattle.heap.specs.Kinds.{frame_at, frames_in}
-use Rattle.heap.specs.State.{State, more_of, with_cells, with_heap, with_scalars}
+use Rattle.heap.specs.Answers.{accepted, made_is}
+use Rattle.heap.specs.Kinds.{frames_in}
+use Rattle.heap.specs.State.{State, more_of, with_cells, with_scalars}
 use Rattle.heap.specs.Good.{Good}
 use Rattle.heap.specs.Promise.{Performs}
 use Rattle.heap.specs.Placing.{Object, RegionObject, judged_new, new_raw, next_region, next_slot, placed_plain, placed_region}
@@ -39,7 +36,7 @@ use Rattle.heap.proofs.KindLaws.{content-coroutine, length-frames_in, room-none}
 use Rattle.heap.proofs.DoesLaws.{first_none, first_passes, first_refuses}
 use Rattle.heap_allocation.specs.declared.Begun.{Begun}
 use Rattle.heap_allocation.specs.declared.Coroutine.{Coroutine}
-use Rattle.heap_allocation.specs.Coroutines.{Begins, FramesPut, Seated, call_of, coroutine_header, refused_with, scalars_for}
+use Rattle.heap_allocation.specs.Coroutines.{Begins, BegunAs, FramesPut, Seated, call_of, coroutine_header, scalars_for}
 use Rattle.heap_allocation.specs.Making.{Finishes, Placeable, Prepared, RoomMade, judged_in, placed, with_next}
 use Rattle.heap_allocation.proofs.MakeLaws.{Above, Makes, Means, above_4, makes, next_more, placeable-scalars, ready-cells, ready-scalars, refused-own, region-made, region-refused, within_4}
 use Rattle.heap_allocation.proofs.RegionLaws.{above_copied}
@@ -63,10 +60,10 @@ exact-size : (s n : ℕ) → s ≡ saturated n → s ≤ CELLS_MAX → s ≡ n
 unfolding saturated
 exact-size s n e l = omega arith
 
-pub accepted-size : {t m : State} {bytes size : ℕ} {d : Done} (n : ℕ) → size ≡ saturated n → Prepared t bytes size d m → d ≡ Do.Accepted → size ≡ n
+pub accepted-size : {t m : State} {bytes size : ℕ} {d : Result Unit Refusal} (n : ℕ) → size ≡ saturated n → Prepared t bytes size d m → d ≡ accepted → size ≡ n
 accepted-size {size = size} n e p f = let y = (p.accepted f).placeable in exact-size size n e (omega (arith, y.region, y.good.laid.cells_max))
 
-pub prepared_exact : {t m : State} {bytes size : ℕ} {d : Done} (n : ℕ) → Good t → size ≡ saturated n → Prepared t bytes size d m → Prepared t bytes n d m
+pub prepared_exact : {t m : State} {bytes size : ℕ} {d : Result Unit Refusal} (n : ℕ) → Good t → size ≡ saturated n → Prepared t bytes size d m → Prepared t bytes n d m
 prepared_exact {t} {bytes = bytes} n g e p = record {
   judged = p.judged ∙ ap (judged_in t bytes) e ∙ judged-exact bytes n g;
   refused = p.refused;
@@ -88,10 +85,6 @@ frames_ext ws ws' k (suc n) h =
       h (k * 4 + 3) (omega arith) (omega arith),
       frames_ext ws ws' (suc k) n (λ q a b. h q (omega arith) (omega arith)),
     )
-
--- no frame: nothing has changed
-put-none : {c c' : List ℕ} {at : ℕ} → FramesPut [] c c' at → c' ≡ c
-put-none {c} {c'} {at} p = ext_get_or 0 c' c p.len (λ q l. p.outside q (by_cases (lt_or_le q at) (λ a. inl a) (λ b. inr (omega arith))))
 
 -- words copied are frames put
 pub put-words : {c c' : List ℕ} {at : ℕ} (ws : List ℕ) (n : ℕ) → n * 4 ≤ length ws → Copied (take (n * 4) ws) c c' at → FramesPut (frames_in ws 0 n) c c' at
@@ -120,36 +113,25 @@ coroutine-makes k ws fs le = makes (λ l. state_4 k.state ∷ []) (λ l. refl) (
 
 -- ---- refused
 
--- nothing is copied
-begins_refused : {t a : State} {k : Coroutine} {ws : List ℕ} {n : ℕ} {b : Begun} {q : Refusal} → Good t → b.count ≡ 0 → b.at ≡ 0 → b.made.answer ≡ Read.Refused q → a ≡ t →
-    ((fs : List Frame) → length fs ≡ n → Performs (call_of k ws fs) t (made_is (Read.Refused q)) t) → Begins t k ws n b a
-begins_refused {t} {a} {b = b} g z y e f h = record {
-  count = omega arith;
-  room = omega arith;
-  cells_max = rw f g.laid.cells_max;
-  once = λ fs c' l p.
-      let none : FramesPut [] a.cells c' b.at = rw z at p in
-      let same : with_cells a c' ≡ t = ap (with_cells a) (put-none none) ∙ f in
-      rw (e, same) (h fs l);
+begins_refused : {t a : State} {k : Coroutine} {ws : List ℕ} {n : ℕ} {q : Refusal} → ((fs : List Frame) → length fs ≡ n → Performs (call_of k ws fs) t (made_is (Err q)) a) → Begins t k ws n (Err q) a
+begins_refused {q = q} h = record {
+  begun = λ b x. absurd (let z : ◌≡◌ {A = ℕ} 0 1 = cc in omega arith);
+  refused = λ q' x fs l. let e : q ≡ q' = cc in rw (← e) (h fs l);
 }
 
-pub refused-state : {t : State} {k : Coroutine} {ws : List ℕ} {n : ℕ} {b : Begun} → Good t → 4 < k.state → b ≡ refused_with t.heap No.BadType → Begins t k ws n b (with_heap t b.made.heap)
+pub refused-state : {t : State} {k : Coroutine} {ws : List ℕ} {n : ℕ} → Good t → 4 < k.state → Begins t k ws n (Err No.BadType) t
 unfolding effect terms
-refused-state {t} {k} {ws} {n} g lt e =
-    rw e
-    (begins_refused g refl refl refl refl
-    (λ fs l. refused-own No.BadType (λ l. state_4 k.state ∷ []) g (λ l. refl) (λ l. refl) (λ l. first_refuses [] No.BadType (above_4 k.state 4 lt))))
+refused-state {k = k} g lt =
+    begins_refused (λ fs l. refused-own No.BadType (λ l. state_4 k.state ∷ []) g (λ l. refl) (λ l. refl) (λ l. first_refuses [] No.BadType (above_4 k.state 4 lt)))
 
-pub refused_begun : {t m : State} {k : Coroutine} {ws : List ℕ} {n bytes : ℕ} {d : Done} {q : Refusal} {b : Begun} → Good t → k.state ≤ 4 →
-    bytes ≡ saturated (t.heap.weights.slot + (t.heap.weights.coroutine + 8 * length ws + t.heap.weights.frame * n)) → Prepared t bytes (length ws + 4 * n) d m → d ≡ Do.Refused q → b ≡ refused_with m.heap q →
-    Begins t k ws n b (with_heap m b.made.heap)
+pub refused_begun : {t m : State} {k : Coroutine} {ws : List ℕ} {n bytes : ℕ} {d : Result Unit Refusal} {q : Refusal} → Good t → k.state ≤ 4 →
+    bytes ≡ saturated (t.heap.weights.slot + (t.heap.weights.coroutine + 8 * length ws + t.heap.weights.frame * n)) → Prepared t bytes (length ws + 4 * n) d m → d ≡ Err q → Begins t k ws n (Err q) m
 unfolding bytes_of cells_of
-refused_begun {t} {m} {k} {ws} {n} {bytes} {q = q} g le bytes_are p f e =
-    rw e
-    (begins_refused g refl refl refl (p.refused q f)
+refused_begun {t} {k = k} {ws} {bytes = bytes} g le bytes_are p f =
+    begins_refused
     (λ fs l.
     let b : bytes ≡ saturated (t.heap.weights.slot + (t.heap.weights.coroutine + 8 * length ws + t.heap.weights.frame * length fs)) = rw l bytes_are in
-    rw (p.refused q f) at (region-refused g (coroutine-makes k ws fs le) b (rw l) p f)))
+    region-refused g (coroutine-makes k ws fs le) b (rw l) p f)
 
 -- ---- placed
 
@@ -175,7 +157,7 @@ seated-object {m} k words frames c' y size_is n w =
     let x = scalars_for k frames in
     rw (seated-scalars m x n w, next_more y x, size_is) (coroutine-object k words frames (next_region (with_cells m c') (words + 4 * frames)))
 
-pub seated : {m a : State} {k : Coroutine} {frames size bytes : ℕ} {x' c' ws : List ℕ} {i : ℕ} {h : Header} {r : Reading} → i ≡ next_slot m → x' ≡ set_scalars m.scalars i (scalars_for k frames) → Copied ws m.cells c' m.heap.top →
+pub seated : {m a : State} {k : Coroutine} {frames size bytes : ℕ} {x' c' ws : List ℕ} {i : ℕ} {h : Header} {r : Result ℕ Refusal} → i ≡ next_slot m → x' ≡ set_scalars m.scalars i (scalars_for k frames) → Copied ws m.cells c' m.heap.top →
     h ≡ coroutine_header k (length ws) size → a.cells ≡ c' → Finishes (with_cells (with_scalars m x') c') h bytes r a → Seated m k ws frames size bytes r a
 seated {m} {a} {k} {frames} {bytes = bytes} {c' = c'} {h = h} n w o h-is c-is done = record {
   registers = rw c-is o;
@@ -214,7 +196,7 @@ module _ {ws c c₁ c' : List ℕ} {fs : List Frame} (top size : ℕ) (w : Copie
       get_or-drop (length ws) (take size (drop top c')) q 0 ∙ get_or-take size (drop top c') (length ws + q) 0 (omega arith) ∙ get_or-drop top c' (length ws + q) 0 ∙ ap (λ (i : ℕ). get_or c' i 0) e ∙ sym (get_or-drop (top + length ws) c' q 0))
       ∙ p.inside
 
-module _ {t m a : State} {k : Coroutine} {ws : List ℕ} {n bytes : ℕ} {r : Reading} (g : Good t) (le : k.state ≤ 4)
+module _ {t m a : State} {k : Coroutine} {ws : List ℕ} {n bytes : ℕ} {r : Result ℕ Refusal} (g : Good t) (le : k.state ≤ 4)
     (bytes_are : bytes ≡ saturated (t.heap.weights.slot + (t.heap.weights.coroutine + 8 * length ws + t.heap.weights.frame * n))) (y : RoomMade t m bytes (length ws + 4 * n))
     (s : Seated m k ws n (length ws + 4 * n) bytes r a) where
   abbrev header : Header
@@ -244,27 +226,26 @@ module _ {t m a : State} {k : Coroutine} {ws : List ℕ} {n bytes : ℕ} {r : Re
       (coroutine_means fs (next_region m₂ size) (more_of m₂ (next_slot m₂)) (next_more y.placeable x) (region-registers m.heap.top size s.registers p size_is fits) (rw l at frames))
       (after, s.answer)
 
-  pub begun : {b : Begun} → b.made.answer ≡ r → b.at ≡ m.heap.top + length ws → b.count ≡ n → Begins t k ws n b a
-  begun {b} e at-is count-is = record {
-    count = omega arith;
-    room = omega (arith, y.placeable.region, s.registers.len);
-    cells_max = omega (arith, y.placeable.good.laid.cells_max, s.registers.len);
-    once = λ fs c' l p.
-        let whole : take b.count fs ≡ fs = take_all b.count fs (omega arith) in
-        rw e (coroutine-made fs c' l (rw (whole, at-is) at p));
-  }
+  pub begun : {b : Begun} → r ≡ Ok b.word → b.at ≡ m.heap.top + length ws → Begins t k ws n (Ok b) a
+  begun {b} e at-is =
+      let made : BegunAs t k ws n b a = record {
+        room = omega (arith, y.placeable.region, s.registers.len);
+        cells_max = omega (arith, y.placeable.good.laid.cells_max, s.registers.len);
+        once = λ fs c' l p. rw e at (coroutine-made fs c' l (rw at-is at p));
+      } in
+      record {
+        begun = λ b' x. let same : b ≡ b' = cc in rw (← same) made;
+        refused = λ q x. absurd (let z : ◌≡◌ {A = ℕ} 0 1 = cc in omega arith);
+      }
+
+-- the coroutine's word is made
+pub seated-err : {m a : State} {k : Coroutine} {ws : List ℕ} {n size bytes : ℕ} {r : Result ℕ Refusal} {q : Refusal} → Seated m k ws n size bytes r a → r ≡ Err q → ⊥
+seated-err s e = let x = sym e ∙ s.answer in let z : ◌≡◌ {A = ℕ} 0 1 = cc in absurd (omega arith)
 
 -- ---- frames as words
 
-take-frames : (ws : List ℕ) (k n m : ℕ) → n ≤ m → take n (frames_in ws k m) ≡ frames_in ws k n
-unfolding frames_in
-take-frames ws k zero m l = refl
-take-frames ws k (suc n) zero l = absurd (omega arith)
-take-frames ws k (suc n) (suc m) l = ap (λ (fs : List Frame). frame_at ws k ∷ fs) (take-frames ws (suc k) n m (omega arith))
-
-pub words-put : {t a : State} {k : Coroutine} {ws : List ℕ} {b : Begun} {c' : List ℕ} (frames : List ℕ) → Begins t k ws (length frames / 4) b a → Copied (take (b.count * 4 - 0) frames) a.cells c' b.at →
-    Performs (call_of k ws (frames_in frames 0 (length frames / 4))) t (made_is b.made.answer) (with_cells a c')
-words-put {b = b} {c' = c'} frames g w =
+pub words-put : {t a : State} {k : Coroutine} {ws : List ℕ} {r : Result Begun Refusal} {b : Begun} {c' : List ℕ} (frames : List ℕ) → Begins t k ws (length frames / 4) r a → r ≡ Ok b → Copied (take (length frames / 4 * 4) frames) a.cells c' b.at →
+    Performs (call_of k ws (frames_in frames 0 (length frames / 4))) t (made_is (Ok b.word)) (with_cells a c')
+words-put {b = b} {c' = c'} frames g e w =
     let n = length frames / 4 in
-    let e : b.count * 4 - 0 ≡ b.count * 4 = omega arith in
-    g.once (frames_in frames 0 n) c' (length-frames_in frames 0 n) (rw (take-frames frames 0 b.count n g.count) (put-words frames b.count (omega (arith, g.count)) (rw e at w)))
+    (g.begun b e).once (frames_in frames 0 n) c' (length-frames_in frames 0 n) (put-words frames n (omega arith) w)

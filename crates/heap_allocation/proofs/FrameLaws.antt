@@ -1,17 +1,19 @@
 -- Frames copied into cells, one after the other: what is left to copy, and what then stands in the cells. Assumes nothing.
-use mathlib.Core.Path.{◌≡◌, refl, sym, ◌∙◌, ap}
+use Rattle.std.proofs.Common.{Result, Ok}
+use mathlib.Core.Path.{◌≡◌, refl, ◌∙◌, ap}
 use mathlib.Core.Logic.{◌⊎◌, inl, inr, ◌≢◌}
 use Prim.Native.Nat.{ℕ, zero, suc, ◌+◌, ◌*◌, ◌<◌, ◌≤◌}
 use native.Mathlib.Numerals.{add-one}
 use native.Mathlib.Nat.{not-suc-le-zero, le_of_suc-le-suc}
 use native.Mathlib.Omega.{arith}
 use mathlib.Core.List.{List, [], ◌∷◌}
-use lib.ListN.{length, get_or, set, take, drop, length-set, length-take, drop_of_length-le}
-use lib.Seq.{drop-cons, get_or-drop, get_or-set_other, get_or-set_same, get_or-take}
+use lib.ListN.{length, get_or, set, drop, length-set, drop_of_length-le}
+use lib.Seq.{drop-cons, get_or-drop, get_or-set_other, get_or-set_same}
 use Rattle.model.specs.declared.Frame.{Frame}
 use Rattle.model.specs.Terms.{no_frame}
 use Rattle.heap.specs.Kinds.{frame_at, frames_in}
 use Rattle.heap_allocation.specs.Frames.{copied, put_frame}
+use Rattle.heap.specs.declared.Refusal.{Refusal}
 use Rattle.heap.specs.Answers.{made_is}
 use Rattle.heap.specs.State.{State, with_cells}
 use Rattle.heap.specs.Promise.{Performs}
@@ -32,30 +34,16 @@ pub start : (fs : List Frame) (cs : List ℕ) (at : ℕ) → Left fs at 0 cs ≡
 start fs cs at = ap (copied fs cs) (omega arith)
 
 -- one turn
-turned : (fs : List Frame) (at i : ℕ) (zs : List ℕ) → i < length fs → Left fs at (i + 1) (put_frame zs (at + 4 * i) (get_or fs i no_frame)) ≡ Left fs at i zs
+pub turned : (fs : List Frame) (at i : ℕ) (zs : List ℕ) → i < length fs → Left fs at (i + 1) (put_frame zs (at + 4 * i) (get_or fs i no_frame)) ≡ Left fs at i zs
 unfolding copied
 turned fs at i zs l =
     let e : at + 4 * (i + 1) ≡ at + 4 * i + 4 = omega arith in
     rw (e, add-one, drop-cons fs i no_frame)
 
 -- at the end nothing is left
-finished : (fs : List Frame) (at i : ℕ) (zs : List ℕ) → length fs ≤ i → Left fs at i zs ≡ zs
+pub finished : (fs : List Frame) (at i : ℕ) (zs : List ℕ) → length fs ≤ i → Left fs at i zs ≡ zs
 unfolding copied
 finished fs at i zs l = rw (drop_of_length-le fs l)
-
--- the first m alone
-module _ (fs : List Frame) (m : ℕ) (l : m ≤ length fs) where
-  first-length : length (take m fs) ≡ m
-  first-length = simp (length-take) (omega arith)
-
-  pub turned-first : (at i : ℕ) (zs : List ℕ) → i < m → Left (take m fs) at (i + 1) (put_frame zs (at + 4 * i) (get_or fs i no_frame)) ≡ Left (take m fs) at i zs
-  turned-first at i zs k =
-      let e : get_or (take m fs) i no_frame ≡ get_or fs i no_frame = get_or-take m fs i no_frame k in
-      let k' : i < length (take m fs) = omega (arith, first-length) in
-      ap (λ (f : Frame). Left (take m fs) at (i + 1) (put_frame zs (at + 4 * i) f)) (sym e) ∙ turned (take m fs) at i zs k'
-
-  pub finished_first : (at i : ℕ) (zs : List ℕ) → m ≤ i → Left (take m fs) at i zs ≡ zs
-  finished_first at i zs k = finished (take m fs) at i zs (omega (arith, first-length))
 
 -- ---- what then stands in the cells
 
@@ -152,7 +140,8 @@ copied-put fs c at l = record {
 }
 
 -- a coroutine begun, and its frames copied
-pub frames-put : {t a : State} {k : Coroutine} {ws : List ℕ} {b : Begun} {c' : List ℕ} (fs : List Frame) → Begins t k ws (length fs) b a → c' ≡ copied (take b.count fs) a.cells b.at →
-    Performs (call_of k ws fs) t (made_is b.made.answer) (with_cells a c')
-frames-put {a = a} {b = b} fs g e =
-    rw e (g.once fs (copied (take b.count fs) a.cells b.at) refl (copied-put (take b.count fs) a.cells b.at (omega (arith, g.room, first-length fs b.count g.count))))
+pub frames-put : {t a : State} {k : Coroutine} {ws : List ℕ} {r : Result Begun Refusal} {b : Begun} {c' : List ℕ} (fs : List Frame) → Begins t k ws (length fs) r a → r ≡ Ok b → c' ≡ copied fs a.cells b.at →
+    Performs (call_of k ws fs) t (made_is (Ok b.word)) (with_cells a c')
+frames-put {a = a} {b = b} fs g e w =
+    let p = g.begun b e in
+    rw w (p.once fs (copied fs a.cells b.at) refl (copied-put fs a.cells b.at p.room))

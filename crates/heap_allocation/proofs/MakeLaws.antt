@@ -1,4 +1,5 @@
 -- A new object of any kind: refused, or placed. Assumes nothing.
+use Rattle.std.proofs.Common.{Result, Ok, Err}
 use Prim.Native.Nat.{ℕ, ◌+◌, ◌*◌, ◌≤◌, ◌<◌}
 use mathlib.Core.Path.{◌≡◌, refl, ap, sym, ◌∙◌}
 use mathlib.Core.Logic.{◌≢◌}
@@ -24,13 +25,9 @@ use Rattle.model.specs.Model.{view_of}
 use Rattle.model.specs.Refusals.{first, unless}
 use Rattle.model.specs.Terms.{allocating, charging, terms}
 use Rattle.heap.specs.declared.Heap.{Heap}
-use Rattle.heap.specs.declared.Done.{Done}
-use Rattle.heap.specs.declared.Done.TheVariants as Do
-use Rattle.heap.specs.declared.Reading.{Reading}
-use Rattle.heap.specs.declared.Reading.TheVariants as Read
 use Rattle.heap.specs.declared.Refusal.{Refusal}
 use Rattle.heap.specs.declared.Refusal.TheVariants as No
-use Rattle.heap.specs.Answers.{made_is, number_of}
+use Rattle.heap.specs.Answers.{accepted, made_is, number_of, seen_by}
 use Rattle.heap.specs.Kinds.{content_of, room_of}
 use Rattle.heap.specs.State.{State, model_of, more_of, with_cells, with_scalars}
 use Rattle.heap.specs.Good.{Good}
@@ -71,8 +68,8 @@ makes rs e h f = record {
 
 -- the call is refused by the first of its own tests that says a number
 pub refused-own : {t : State} {k : Call} {c : Content} {s : Room} (q : Refusal) (rs : Layout → List ℕ) → Good t → ((l : Layout) → effect (view_of (model_of l t)) k ≡ add c s) →
-    ((l : Layout) → terms (model_of l t) k ≡ allocating (model_of l t) (rs l) (effect (view_of (model_of l t)) k)) → ((l : Layout) → first (rs l) ≡ number_of q) → Performs k t (made_is (Read.Refused q)) t
-unfolding made_is allocating charging
+    ((l : Layout) → terms (model_of l t) k ≡ allocating (model_of l t) (rs l) (effect (view_of (model_of l t)) k)) → ((l : Layout) → first (rs l) ≡ number_of q) → Performs k t (made_is (Err q)) t
+unfolding seen_by allocating charging
 refused-own {k = k} q rs g e h f l = does-own l g k q (rw (h l, e l)) (rw (h l, e l) (f l))
 
 -- 4: type above 2, state above 4
@@ -103,22 +100,22 @@ means_empty {h} {x} {c} {s} l e p =
 -- ---- the object refused or placed
 
 module _ {t : State} (g : Good t) {k : Call} {c : Content} {s : Room} (w : Makes t k c s) {bytes : ℕ} (bytes_are : bytes ≡ saturated (weight_of t c s)) where
-  pub new-refused : {size : ℕ} {q : Refusal} → cells_of c s ≡ size → judged_in t bytes size ≡ Do.Refused q → Performs k t (made_is (Read.Refused q)) t
-  unfolding made_is
+  pub new-refused : {size : ℕ} {q : Refusal} → cells_of c s ≡ size → judged_in t bytes size ≡ Err q → Performs k t (made_is (Err q)) t
+  unfolding seen_by
   new-refused {size} n e l = judged-refused l g bytes size k (w.effect_is l) (w.charge-is l) bytes_are n (w.own l) (w.lent_before l) e
 
   module _ {m : State} (h : Header) (y : RoomMade t m bytes h.size) where
-    placed_plain_lem : Means (with_region h 0 0 0) [] (more_of m (next_slot m)) c s → h.size ≡ 0 → Performs k t (made_is (Read.Is (new_word m h.kind))) (placed m h bytes)
-    unfolding made_is
+    placed_plain_lem : Means (with_region h 0 0 0) [] (more_of m (next_slot m)) c s → h.size ≡ 0 → Performs k t (made_is (Ok (new_word m h.kind))) (placed m h bytes)
+    unfolding seen_by
     placed_plain_lem p e l =
-        let j : judged_in m bytes 0 ≡ Do.Accepted = rw e at y.placeable.judged in
+        let j : judged_in m bytes 0 ≡ accepted = rw e at y.placeable.judged in
         rw (eqb_yes h.size 0 e)
         (does_from (y.model l) refl
         (does_plain y.placeable.good h bytes p.object.some_kind l k (rw (y.model l) (w.charge-is l)) bytes_are (rw (y.model l) (w.own l)) (rw (y.model l) (w.lent_after l)) (judged-accepted m bytes 0 j) p.object.fit
         (rw (y.model l) (w.effect_is l)) p.content p.room))
 
-    placed-region : Means h (next_region m h.size) (more_of m (next_slot m)) c s → (h.size ≡ 0 → ⊥) → Performs k t (made_is (Read.Is (new_word m h.kind))) (placed m h bytes)
-    unfolding made_is
+    placed-region : Means h (next_region m h.size) (more_of m (next_slot m)) c s → (h.size ≡ 0 → ⊥) → Performs k t (made_is (Ok (new_word m h.kind))) (placed m h bytes)
+    unfolding seen_by
     placed-region p ne l =
         let z = y.placeable in
         rw (eqb_no h.size 0 ne)
@@ -126,7 +123,7 @@ module _ {t : State} (g : Good t) {k : Call} {c : Content} {s : Room} (w : Makes
         (does-region z.good h bytes p.object.some_kind l k (rw (y.model l) (w.charge-is l)) bytes_are (rw (y.model l) (w.own l)) (rw (y.model l) (w.lent_after l)) (judged-accepted m bytes h.size z.judged) z.region (z.entry ne)
         p.object.fit (rw (y.model l) (w.effect_is l)) p.content p.room))
 
-    pub new-placed : Means h (next_region m h.size) (more_of m (next_slot m)) c s → Performs k t (made_is (Read.Is (new_word m h.kind))) (placed m h bytes)
+    pub new-placed : Means h (next_region m h.size) (more_of m (next_slot m)) c s → Performs k t (made_is (Ok (new_word m h.kind))) (placed m h bytes)
     new-placed p =
         by_cases (same_or_not h.size 0)
         (λ e. placed_plain_lem (means_empty (drop m.heap.top m.cells) e p) e)
@@ -134,7 +131,7 @@ module _ {t : State} (g : Good t) {k : Call} {c : Content} {s : Room} (w : Makes
 
 -- ---- what is written before the placing
 
-pub ready_self : {t : State} {bytes : ℕ} → Good t → judged_in t bytes 0 ≡ Do.Accepted → RoomMade t t bytes 0
+pub ready_self : {t : State} {bytes : ℕ} → Good t → judged_in t bytes 0 ≡ accepted → RoomMade t t bytes 0
 ready_self g j = record {
   placeable = record { good = g; judged = j; region = omega (arith, g.laid.top_fits); entry = λ ne. absurd (ne refl) };
   model = λ l. refl;
@@ -165,7 +162,7 @@ next_more {m} y x = scalars_at-same m.scalars (next_slot m) x (next_fits y).1
 -- ---- without cells
 
 -- the scalars written first
-pub plain_after : {t : State} {h : Header} {bytes : ℕ} {d : Done} {r : Reading} {a : State} {x' : List ℕ} {i : ℕ} (x : Scalars) → d ≡ judged_in t bytes 0 → d ≡ Do.Accepted → i ≡ next_slot t → x' ≡ set_scalars t.scalars i x →
+pub plain_after : {t : State} {h : Header} {bytes : ℕ} {d : Result Unit Refusal} {r : Result ℕ Refusal} {a : State} {x' : List ℕ} {i : ℕ} (x : Scalars) → d ≡ judged_in t bytes 0 → d ≡ accepted → i ≡ next_slot t → x' ≡ set_scalars t.scalars i x →
     PlacesPlain (with_scalars t x') h bytes r a → MadePlain t (with_next t x) h bytes r a
 unfolding answer_by state_by
 plain_after {t} {h} {bytes} x e f n w p =
@@ -173,39 +170,39 @@ plain_after {t} {h} {bytes} x e f n w p =
     record { answer = rw (← e, f) p.answer; after = rw (← e, f) (p.after ∙ ap (λ (x' : List ℕ). placed_plain (with_scalars t x') h bytes) q); good = p.good }
 
 module _ {t m : State} {h : Header} {bytes : ℕ} where
-  pub plain_refused : {d : Done} {q : Refusal} → Good t → d ≡ judged_in t bytes 0 → d ≡ Do.Refused q → MadePlain t m h bytes (Read.Refused q) t
+  pub plain_refused : {d : Result Unit Refusal} {q : Refusal} → Good t → d ≡ judged_in t bytes 0 → d ≡ Err q → MadePlain t m h bytes (Err q) t
   unfolding answer_by state_by
   plain_refused g e f = record { answer = rw (← e, f); after = rw (← e, f); good = g }
 
-  pub plain_accepted : {d : Done} {r : Reading} {a : State} → d ≡ judged_in t bytes 0 → d ≡ Do.Accepted → PlacesPlain m h bytes r a → MadePlain t m h bytes r a
+  pub plain_accepted : {d : Result Unit Refusal} {r : Result ℕ Refusal} {a : State} → d ≡ judged_in t bytes 0 → d ≡ accepted → PlacesPlain m h bytes r a → MadePlain t m h bytes r a
   unfolding answer_by state_by
   plain_accepted e f p = record { answer = rw (← e, f) p.answer; after = rw (← e, f) p.after; good = p.good }
 
-  module _ {r : Reading} {a : State} (g : Good t) {k : Call} {c : Content} {s : Room} (w : Makes t k c s) (bytes_are : bytes ≡ saturated (weight_of t c s)) (none : cells_of c s ≡ 0)
-      (y : judged_in t bytes 0 ≡ Do.Accepted → RoomMade t m bytes 0) (p : judged_in t bytes 0 ≡ Do.Accepted → Means (with_region h 0 0 0) [] (more_of m (next_slot m)) c s) (d : MadePlain t m h bytes r a) where
-    performs_by : (j : Done) → judged_in t bytes 0 ≡ j → Performs k t (made_is r) a
+  module _ {r : Result ℕ Refusal} {a : State} (g : Good t) {k : Call} {c : Content} {s : Room} (w : Makes t k c s) (bytes_are : bytes ≡ saturated (weight_of t c s)) (none : cells_of c s ≡ 0)
+      (y : judged_in t bytes 0 ≡ accepted → RoomMade t m bytes 0) (p : judged_in t bytes 0 ≡ accepted → Means (with_region h 0 0 0) [] (more_of m (next_slot m)) c s) (d : MadePlain t m h bytes r a) where
+    performs_by : (j : Result Unit Refusal) → judged_in t bytes 0 ≡ j → Performs k t (made_is r) a
     unfolding answer_by state_by
-    performs_by Do.Accepted e = rw (d.answer, d.after, e) (placed_plain_lem g w bytes_are (with_region h 0 0 0) (y e) (p e) refl)
-    performs_by (Do.Refused q) e = rw (d.answer, d.after, e) (new-refused g w bytes_are none e)
+    performs_by (Ok u) e = rw (d.answer, d.after, e) (placed_plain_lem g w bytes_are (with_region h 0 0 0) (y e) (p e) refl)
+    performs_by (Err q) e = rw (d.answer, d.after, e) (new-refused g w bytes_are none e)
 
     pub plain_performs : Performs k t (made_is r) a
     plain_performs = performs_by (judged_in t bytes 0) refl
 
 -- an object without cells that has scalars
-pub scalars_performs : {t a : State} {h : Header} {bytes : ℕ} {r : Reading} {k : Call} {c : Content} {s : Room} (x : Scalars) → Good t → Makes t k c s → bytes ≡ saturated (weight_of t c s) → cells_of c s ≡ 0 →
+pub scalars_performs : {t a : State} {h : Header} {bytes : ℕ} {r : Result ℕ Refusal} {k : Call} {c : Content} {s : Room} (x : Scalars) → Good t → Makes t k c s → bytes ≡ saturated (weight_of t c s) → cells_of c s ≡ 0 →
     Means (with_region h 0 0 0) [] x c s → MadePlain t (with_next t x) h bytes r a → Performs k t (made_is r) a
 scalars_performs x g w bytes_are none p d =
     plain_performs g w bytes_are none (λ e. ready-scalars (ready_self g e) x) (λ e. rw (next_more (ready_self g e).placeable x) p) d
 
 -- ---- prepared
 
-pub prepared_refused : {t : State} {bytes size : ℕ} {d : Done} {q : Refusal} → Good t → d ≡ judged_in t bytes size → d ≡ Do.Refused q → Prepared t bytes size (Do.Refused q) t
+pub prepared_refused : {t : State} {bytes size : ℕ} {d : Result Unit Refusal} {q : Refusal} → Good t → d ≡ judged_in t bytes size → d ≡ Err q → Prepared t bytes size (Err q) t
 prepared_refused g e f = record { judged = sym f ∙ e; refused = λ q x. refl; accepted = λ x. absurd (let z : ◌≡◌ {A = ℕ} 0 1 = cc in omega arith); good = g }
 
-pub prepared_none : {t : State} {bytes size : ℕ} {d : Done} → Good t → d ≡ judged_in t bytes size → d ≡ Do.Accepted → size ≡ 0 → Prepared t bytes size Do.Accepted t
+pub prepared_none : {t : State} {bytes size : ℕ} {d : Result Unit Refusal} → Good t → d ≡ judged_in t bytes size → d ≡ accepted → size ≡ 0 → Prepared t bytes size accepted t
 prepared_none {t} {bytes} g e f z = record { judged = sym f ∙ e; refused = λ q x. refl; accepted = λ x. rw z (ready_self g (rw z at (sym e ∙ f))); good = g }
 
-pub room-left : {t : State} (bytes size : ℕ) {d : Done} → Good t → d ≡ judged_in t bytes size → d ≡ Do.Accepted → t.heap.taken + size ≤ length t.cells
+pub room-left : {t : State} (bytes size : ℕ) {d : Result Unit Refusal} → Good t → d ≡ judged_in t bytes size → d ≡ accepted → t.heap.taken + size ≤ length t.cells
 room-left {t} bytes size g e f = (judged-accepted t bytes size (sym e ∙ f)).room
 
 -- room for a region changes nothing that is judged
@@ -213,7 +210,7 @@ judged-roomy : {t m : State} {size : ℕ} (bytes n : ℕ) → Roomy t m size →
 unfolding judged_new
 judged-roomy {t} {m} bytes n y = ap (λ (h : Heap). judged_new h (length m.cells) bytes n) y.heap ∙ rw y.cells_length
 
-pub prepared_room : {t m : State} {bytes size : ℕ} {d : Done} → d ≡ judged_in t bytes size → d ≡ Do.Accepted → Roomy t m size → Prepared t bytes size Do.Accepted m
+pub prepared_room : {t m : State} {bytes size : ℕ} {d : Result Unit Refusal} → d ≡ judged_in t bytes size → d ≡ accepted → Roomy t m size → Prepared t bytes size accepted m
 prepared_room {t} {m} {bytes} {size} e f y = record {
   judged = sym f ∙ e;
   refused = λ q x. absurd (let z : ◌≡◌ {A = ℕ} 0 1 = cc in omega arith);
@@ -241,7 +238,7 @@ ready-cells {c' = c'} y o =
 
 -- ---- finished
 
-module _ {m a : State} (h : Header) {bytes : ℕ} (y : Placeable m bytes h.size) {r : Reading} where
+module _ {m a : State} (h : Header) {bytes : ℕ} (y : Placeable m bytes h.size) {r : Result ℕ Refusal} where
   pub finished_plain : h.size ≡ 0 → PlacesPlain m h bytes r a → Finishes m h bytes r a
   finished_plain z p = record { after = rw (eqb_yes h.size 0 z) p.after; answer = p.answer; good = p.good }
 
@@ -254,9 +251,9 @@ pub region-ready : {t m : State} {bytes : ℕ} {h : Header} {ws c' : List ℕ} �
 region-ready y o w s = ((ready-cells y o).placeable, rw w (s _))
 
 module _ {t : State} (g : Good t) {k : Call} {c : Content} {s : Room} (w : Makes t k c s) {bytes : ℕ} (bytes_are : bytes ≡ saturated (weight_of t c s)) where
-  pub region-refused : {m : State} {size : ℕ} {d : Done} {q : Refusal} → cells_of c s ≡ size → Prepared t bytes size d m → d ≡ Do.Refused q → Performs k t (made_is (Read.Refused q)) m
+  pub region-refused : {m : State} {size : ℕ} {d : Result Unit Refusal} {q : Refusal} → cells_of c s ≡ size → Prepared t bytes size d m → d ≡ Err q → Performs k t (made_is (Err q)) m
   region-refused {q = q} n p f = rw (p.refused q f) (new-refused g w bytes_are n (sym p.judged ∙ f))
 
-  pub region-made : {m a : State} (h : Header) {r : Reading} → RoomMade t m bytes h.size → Means h (next_region m h.size) (more_of m (next_slot m)) c s → (a ≡ placed m h bytes) × (r ≡ Read.Is (new_word m h.kind)) →
+  pub region-made : {m a : State} (h : Header) {r : Result ℕ Refusal} → RoomMade t m bytes h.size → Means h (next_region m h.size) (more_of m (next_slot m)) c s → (a ≡ placed m h bytes) × (r ≡ Ok (new_word m h.kind)) →
       Performs k t (made_is r) a
   region-made h y p e = rw (e.0, e.1) (new-placed g w bytes_are h y p)

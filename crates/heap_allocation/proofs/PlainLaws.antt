@@ -1,4 +1,6 @@
 -- Integers, cells, errors and boxes: objects without cells and scalars. Assumes nothing.
+use Rattle.std.proofs.Common.{Result, Err}
+use Rattle.heap.specs.declared.Refusal.{Refusal}
 use Prim.Native.Nat.{ℕ, ◌+◌, ◌≤◌, ◌<◌}
 use mathlib.Core.Path.{◌≡◌, refl, sym, ◌∙◌}
 use mathlib.Core.List.{[], ◌∷◌}
@@ -19,8 +21,6 @@ use Rattle.model.specs.Calls.{Call, effect, no_room}
 use Rattle.model.specs.Content.{Content, bytes_of, cells_of}
 use Rattle.model.specs.Refusals.{type_4}
 use Rattle.model.specs.Terms.{terms}
-use Rattle.heap.specs.declared.Reading.{Reading}
-use Rattle.heap.specs.declared.Reading.TheVariants as Read
 use Rattle.heap.specs.declared.Refusal.TheVariants as No
 use Rattle.heap.specs.Answers.{made_is}
 use Rattle.heap.specs.Kinds.{content_of}
@@ -49,7 +49,7 @@ four_object kind value mode lo hi h-is x =
       fit = good_plain lo hi (omega arith) (omega arith) refl;
     }
 
-module _ {t a : State} {h : Header} {r : Reading} (g : Good t) where
+module _ {t a : State} {h : Header} {r : Result ℕ Refusal} (g : Good t) where
   four : {k : Call} {c : Content} (kind value mode : ℕ) → Makes t k c no_room → 2 ≤ kind → kind ≤ 5 → h ≡ headerOf kind value mode 0 0 →
       ((x : Scalars) → content_of (new_raw HALF (headerOf kind value mode 0 0) []) x ≡ c) → bytes_of t.heap.weights c no_room ≡ 0 → cells_of c no_room ≡ 0 →
       MadePlain t t h t.heap.weights.slot r a → Performs k t (made_is r) a
@@ -83,6 +83,6 @@ module _ {t a : State} {h : Header} {r : Reading} (g : Good t) where
       four 5 w 0 (makes (λ l. []) (λ l. refl) (λ l. refl) (λ l. first_none)) (omega arith) (omega arith) h-is
       (λ x. content-box (new_raw HALF (headerOf 5 w 0 0 0) []) x refl) refl refl d
 
-pub cell-refused : {t : State} → Good t → (t' w : ℕ) → 2 < t' → Performs (Calls.new_cell t' w) t (made_is (Read.Refused No.BadType)) t
+pub cell-refused : {t : State} → Good t → (t' w : ℕ) → 2 < t' → Performs (Calls.new_cell t' w) t (made_is (Err No.BadType)) t
 unfolding effect terms
 cell-refused g t' w lt = refused-own No.BadType (λ l. type_4 t' ∷ []) g (λ l. refl) (λ l. refl) (λ l. first_refuses [] No.BadType (above_4 t' 2 lt))

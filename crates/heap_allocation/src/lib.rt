@@ -4,7 +4,7 @@
 
 pub mod making;
 
-ghost use Rattle.std.specs.Prelude.{◌≡◌, ◌+◌, ◌*◌, ◌/◌, ◌≤◌, length, take};
+ghost use Rattle.std.specs.Prelude.{◌≡◌, ◌+◌, ◌*◌, ◌/◌, ◌≤◌, length};
 ghost use Rattle.account.specs.Account.{saturated};
 ghost use Rattle.model.specs.Calls as Calls;
 ghost use Rattle.heap.specs.State.{state};
@@ -12,46 +12,37 @@ ghost use Rattle.heap.specs.Good.{Good};
 ghost use Rattle.heap.specs.Promise.{Performs};
 ghost use Rattle.heap.specs.Answers.{made_is};
 ghost use Rattle.heap.specs.Kinds.{frames_in};
-ghost use Rattle.heap_allocation.specs.Coroutines.{Begins, Seated, call_of, refused_with};
+ghost use Rattle.heap_allocation.specs.Coroutines.{Begins, Seated, call_of};
 ghost use Rattle.heap_allocation.specs.Frames.{copied, put_frame};
 ghost use Rattle.heap_allocation.specs.Making.{Placeable};
 
-use heap::{Done, Heap, Made, Reading, Refusal};
+use heap::{Heap, Refusal};
 use heap_slots::{CoroutineScalars, Header, Scalars, kinds};
 use model::{Frame, Weights};
 
 pub fn new_integer(
-    heap: Heap,
+    heap: &mut Heap,
     slots: &mut [u64],
     scalars: &[u64],
     list: &[u64],
     directory: &[u64],
     cells: &[u64],
     z: i64,
-) -> Made
-    requires { Good (state heap slots.old scalars.now list.now directory.now cells.now) }
-    ensures { Performs (Calls.new_integer z) (state heap slots.old scalars.now list.now directory.now cells.now) (made_is result.answer) (state result.heap slots.new scalars.now list.now directory.now cells.now) }
+) -> Result<u64, Refusal>
+    requires { Good (state heap.old slots.old scalars.now list.now directory.now cells.now) }
+    ensures { Performs (Calls.new_integer z) (state heap.old slots.old scalars.now list.now directory.now cells.now) (made_is result) (state heap.new slots.new scalars.now list.now directory.now cells.now) }
 {
-    let weights = heap.weights;
+    let bytes = heap.weights.slot;
     let h = Header {
         kind: kinds::INTEGER,
         value: words::bits_of(z),
         ..Header::EMPTY
     };
-    making::new_plain(
-        heap,
-        slots,
-        scalars,
-        list,
-        directory,
-        cells,
-        h,
-        weights.slot,
-    )
+    making::new_plain(heap, slots, scalars, list, directory, cells, h, bytes)
 }
 
 pub fn new_cell(
-    heap: Heap,
+    heap: &mut Heap,
     slots: &mut [u64],
     scalars: &[u64],
     list: &[u64],
@@ -59,37 +50,25 @@ pub fn new_cell(
     cells: &[u64],
     t: u64,
     w: u64,
-) -> Made
-    requires { Good (state heap slots.old scalars.now list.now directory.now cells.now) }
-    ensures { Performs (Calls.new_cell t w) (state heap slots.old scalars.now list.now directory.now cells.now) (made_is result.answer) (state result.heap slots.new scalars.now list.now directory.now cells.now) }
+) -> Result<u64, Refusal>
+    requires { Good (state heap.old slots.old scalars.now list.now directory.now cells.now) }
+    ensures { Performs (Calls.new_cell t w) (state heap.old slots.old scalars.now list.now directory.now cells.now) (made_is result) (state heap.new slots.new scalars.now list.now directory.now cells.now) }
 {
     if 2 < t {
-        return Made {
-            heap,
-            answer: Reading::Refused(Refusal::BadType),
-        };
+        return Err(Refusal::BadType);
     }
-    let weights = heap.weights;
+    let bytes = heap.weights.slot;
     let h = Header {
         kind: kinds::CELL,
         value: w,
         mode: t,
         ..Header::EMPTY
     };
-    making::new_plain(
-        heap,
-        slots,
-        scalars,
-        list,
-        directory,
-        cells,
-        h,
-        weights.slot,
-    )
+    making::new_plain(heap, slots, scalars, list, directory, cells, h, bytes)
 }
 
 pub fn new_error(
-    heap: Heap,
+    heap: &mut Heap,
     slots: &mut [u64],
     scalars: &[u64],
     list: &[u64],
@@ -97,61 +76,43 @@ pub fn new_error(
     cells: &[u64],
     kind: u16,
     w: u64,
-) -> Made
-    requires { Good (state heap slots.old scalars.now list.now directory.now cells.now) }
-    ensures { Performs (Calls.new_error kind w) (state heap slots.old scalars.now list.now directory.now cells.now) (made_is result.answer) (state result.heap slots.new scalars.now list.now directory.now cells.now) }
+) -> Result<u64, Refusal>
+    requires { Good (state heap.old slots.old scalars.now list.now directory.now cells.now) }
+    ensures { Performs (Calls.new_error kind w) (state heap.old slots.old scalars.now list.now directory.now cells.now) (made_is result) (state heap.new slots.new scalars.now list.now directory.now cells.now) }
 {
-    let weights = heap.weights;
+    let bytes = heap.weights.slot;
     let h = Header {
         kind: kinds::ERROR,
         value: w,
-        mode: kind as u64,
+        mode: u64::from(kind),
         ..Header::EMPTY
     };
-    making::new_plain(
-        heap,
-        slots,
-        scalars,
-        list,
-        directory,
-        cells,
-        h,
-        weights.slot,
-    )
+    making::new_plain(heap, slots, scalars, list, directory, cells, h, bytes)
 }
 
 pub fn new_box(
-    heap: Heap,
+    heap: &mut Heap,
     slots: &mut [u64],
     scalars: &[u64],
     list: &[u64],
     directory: &[u64],
     cells: &[u64],
     w: u64,
-) -> Made
-    requires { Good (state heap slots.old scalars.now list.now directory.now cells.now) }
-    ensures { Performs (Calls.new_box w) (state heap slots.old scalars.now list.now directory.now cells.now) (made_is result.answer) (state result.heap slots.new scalars.now list.now directory.now cells.now) }
+) -> Result<u64, Refusal>
+    requires { Good (state heap.old slots.old scalars.now list.now directory.now cells.now) }
+    ensures { Performs (Calls.new_box w) (state heap.old slots.old scalars.now list.now directory.now cells.now) (made_is result) (state heap.new slots.new scalars.now list.now directory.now cells.now) }
 {
-    let weights = heap.weights;
+    let bytes = heap.weights.slot;
     let h = Header {
         kind: kinds::BOX,
         value: w,
         ..Header::EMPTY
     };
-    making::new_plain(
-        heap,
-        slots,
-        scalars,
-        list,
-        directory,
-        cells,
-        h,
-        weights.slot,
-    )
+    making::new_plain(heap, slots, scalars, list, directory, cells, h, bytes)
 }
 
 pub fn new_struct(
-    heap: Heap,
+    heap: &mut Heap,
     slots: &mut [u64],
     scalars: &[u64],
     list: &[u64],
@@ -159,9 +120,9 @@ pub fn new_struct(
     cells: &mut [u64],
     number: u64,
     fields: &[u64],
-) -> Made
-    requires { Good (state heap slots.old scalars.now list.now directory.old cells.old) }
-    ensures { Performs (Calls.new_struct number fields.now) (state heap slots.old scalars.now list.now directory.old cells.old) (made_is result.answer) (state result.heap slots.new scalars.now list.now directory.new cells.new) }
+) -> Result<u64, Refusal>
+    requires { Good (state heap.old slots.old scalars.now list.now directory.old cells.old) }
+    ensures { Performs (Calls.new_struct number fields.now) (state heap.old slots.old scalars.now list.now directory.old cells.old) (made_is result) (state heap.new slots.new scalars.now list.now directory.new cells.new) }
 {
     making::new_words(
         heap,
@@ -178,7 +139,7 @@ pub fn new_struct(
 }
 
 pub fn new_function(
-    heap: Heap,
+    heap: &mut Heap,
     slots: &mut [u64],
     scalars: &[u64],
     list: &[u64],
@@ -187,14 +148,10 @@ pub fn new_function(
     import: bool,
     number: u64,
     captures: &[u64],
-) -> Made
-    requires { Good (state heap slots.old scalars.now list.now directory.old cells.old) }
-    ensures { Performs (Calls.new_function import number captures.now) (state heap slots.old scalars.now list.now directory.old cells.old) (made_is result.answer) (state result.heap slots.new scalars.now list.now directory.new cells.new) }
+) -> Result<u64, Refusal>
+    requires { Good (state heap.old slots.old scalars.now list.now directory.old cells.old) }
+    ensures { Performs (Calls.new_function import number captures.now) (state heap.old slots.old scalars.now list.now directory.old cells.old) (made_is result) (state heap.new slots.new scalars.now list.now directory.new cells.new) }
 {
-    let mut mode: u64 = 0;
-    if import {
-        mode = 1;
-    }
     making::new_words(
         heap,
         slots,
@@ -204,13 +161,13 @@ pub fn new_function(
         cells,
         kinds::FUNCTION,
         number,
-        mode,
+        u64::from(import),
         captures,
     )
 }
 
 pub fn new_array(
-    heap: Heap,
+    heap: &mut Heap,
     slots: &mut [u64],
     scalars: &[u64],
     list: &[u64],
@@ -218,21 +175,15 @@ pub fn new_array(
     cells: &mut [u64],
     t: u64,
     length: i64,
-) -> Made
-    requires { Good (state heap slots.old scalars.now list.now directory.old cells.old) }
-    ensures { Performs (Calls.new_array t length) (state heap slots.old scalars.now list.now directory.old cells.old) (made_is result.answer) (state result.heap slots.new scalars.now list.now directory.new cells.new) }
+) -> Result<u64, Refusal>
+    requires { Good (state heap.old slots.old scalars.now list.now directory.old cells.old) }
+    ensures { Performs (Calls.new_array t length) (state heap.old slots.old scalars.now list.now directory.old cells.old) (made_is result) (state heap.new slots.new scalars.now list.now directory.new cells.new) }
 {
     if 2 < t {
-        return Made {
-            heap,
-            answer: Reading::Refused(Refusal::BadType),
-        };
+        return Err(Refusal::BadType);
     }
     if length < 0 {
-        return Made {
-            heap,
-            answer: Reading::Refused(Refusal::Outside),
-        };
+        return Err(Refusal::Outside);
     }
     making::new_items(
         heap,
@@ -247,44 +198,33 @@ pub fn new_array(
 }
 
 pub fn new_string(
-    heap: Heap,
+    heap: &mut Heap,
     slots: &mut [u64],
     scalars: &[u64],
     list: &[u64],
     directory: &mut [u64],
     cells: &mut [u64],
     bytes: &[u8],
-) -> Made
-    requires { Good (state heap slots.old scalars.now list.now directory.old cells.old) }
-    ensures { Performs (Calls.new_string bytes.now) (state heap slots.old scalars.now list.now directory.old cells.old) (made_is result.answer) (state result.heap slots.new scalars.now list.now directory.new cells.new) }
+) -> Result<u64, Refusal>
+    requires { Good (state heap.old slots.old scalars.now list.now directory.old cells.old) }
+    ensures { Performs (Calls.new_string bytes.now) (state heap.old slots.old scalars.now list.now directory.old cells.old) (made_is result) (state heap.new slots.new scalars.now list.now directory.new cells.new) }
 {
-    let weights = heap.weights;
     let n = bytes.len() as u64;
-    let weight = weights.slot.saturating_add(n);
+    let weight = heap.weights.slot.saturating_add(n);
     let size = n / 8 + (n % 8 + 7) / 8;
-    let p = making::prepare(heap, slots, scalars, list, directory, cells, weight, size);
-    let roomy = p.heap;
-    let done = p.done;
-    match done {
-        Done::Refused(q) => Made {
-            heap: roomy,
-            answer: Reading::Refused(q),
-        },
-        Done::Accepted => {
-            heap_cells::write_string(bytes, cells, roomy.top as usize);
-            let h = Header {
-                kind: kinds::STRING,
-                len: n,
-                size,
-                ..Header::EMPTY
-            };
-            making::finish(roomy, slots, scalars, list, directory, cells, h, weight)
-        }
-    }
+    making::prepare(heap, slots, scalars, list, directory, cells, weight, size)?;
+    heap_cells::write_string(bytes, cells, heap.top as usize);
+    let h = Header {
+        kind: kinds::STRING,
+        len: n,
+        size,
+        ..Header::EMPTY
+    };
+    making::finish(heap, slots, scalars, list, directory, cells, h, weight)
 }
 
 // What a coroutine is made with, beside its registers and frames.
-#[derive(Clone, Copy)]
+#[derive(Clone, Copy, Debug, PartialEq, Eq)]
 pub struct Coroutine {
     pub state: u64,
     pub sequence: u64,
@@ -294,13 +234,11 @@ pub struct Coroutine {
     pub signal: u64,
 }
 
-// A coroutine made but for its frames: `count` of them go into the cells from `at` on, none where
-// the call is refused.
-#[derive(Clone, Copy)]
+// A coroutine made but for its frames, which go into the cells from `at` on.
+#[derive(Clone, Copy, Debug, PartialEq, Eq)]
 struct Begun {
-    made: Made,
+    word: u64,
     at: usize,
-    count: usize,
 }
 
 #[tactic(auto, unfolding(account::specs::Account::saturated))]
@@ -320,7 +258,7 @@ fn coroutine_cells(registers: u64, frames: u64) -> u64
 
 // The coroutine is placed, with its scalars and registers; its frames' cells are as they were.
 fn place_coroutine(
-    heap: Heap,
+    heap: &mut Heap,
     slots: &mut [u64],
     scalars: &mut [u64],
     list: &[u64],
@@ -331,9 +269,9 @@ fn place_coroutine(
     frames: u64,
     size: u64,
     bytes: u64,
-) -> Made
-    requires { Placeable (state heap slots.old scalars.old list.now directory.old cells.old) bytes size × (size ≡ length registers.now + 4 * frames) }
-    ensures { Seated (state heap slots.old scalars.old list.now directory.old cells.old) k registers.now frames size bytes result.answer (state result.heap slots.new scalars.new list.now directory.new cells.new) }
+) -> Result<u64, Refusal>
+    requires { Placeable (state heap.old slots.old scalars.old list.now directory.old cells.old) bytes size × (size ≡ length registers.now + 4 * frames) }
+    ensures { Seated (state heap.old slots.old scalars.old list.now directory.old cells.old) k registers.now frames size bytes result (state heap.new slots.new scalars.new list.now directory.new cells.new) }
 {
     let x = Scalars::from(CoroutineScalars {
         finalized: 0,
@@ -357,22 +295,9 @@ fn place_coroutine(
     making::finish(heap, slots, scalars, list, directory, cells, h, bytes)
 }
 
-fn refuse(heap: Heap, q: Refusal) -> Begun
-    ensures { result ≡ refused_with heap q }
-{
-    Begun {
-        made: Made {
-            heap,
-            answer: Reading::Refused(q),
-        },
-        at: 0,
-        count: 0,
-    }
-}
-
 // All of a new coroutine but the words of its frames.
 fn begin(
-    heap: Heap,
+    heap: &mut Heap,
     slots: &mut [u64],
     scalars: &mut [u64],
     list: &[u64],
@@ -381,40 +306,28 @@ fn begin(
     k: Coroutine,
     registers: &[u64],
     frames: usize,
-) -> Begun
-    requires { Good (state heap slots.old scalars.old list.now directory.old cells.old) }
-    ensures { Begins (state heap slots.old scalars.old list.now directory.old cells.old) k registers.now frames result (state result.made.heap slots.new scalars.new list.now directory.new cells.new) }
+) -> Result<Begun, Refusal>
+    requires { Good (state heap.old slots.old scalars.old list.now directory.old cells.old) }
+    ensures { Begins (state heap.old slots.old scalars.old list.now directory.old cells.old) k registers.now frames result (state heap.new slots.new scalars.new list.now directory.new cells.new) }
 {
     if 4 < k.state {
-        return refuse(heap, Refusal::BadType);
+        return Err(Refusal::BadType);
     }
     let n = frames as u64;
     let words = registers.len() as u64;
-    let weights = heap.weights;
-    let bytes = coroutine_bytes(weights, words, n);
+    let bytes = coroutine_bytes(heap.weights, words, n);
     let size = coroutine_cells(words, n);
-    let p = making::prepare(heap, slots, scalars, list, directory, cells, bytes, size);
-    let roomy = p.heap;
-    let done = p.done;
-    match done {
-        Done::Refused(q) => refuse(roomy, q),
-        Done::Accepted => {
-            let at = roomy.top as usize + registers.len();
-            let made = place_coroutine(
-                roomy, slots, scalars, list, directory, cells, k, registers, n, size, bytes,
-            );
-            Begun {
-                made,
-                at,
-                count: frames,
-            }
-        }
-    }
+    making::prepare(heap, slots, scalars, list, directory, cells, bytes, size)?;
+    let at = heap.top as usize + registers.len();
+    let word = place_coroutine(
+        heap, slots, scalars, list, directory, cells, k, registers, n, size, bytes,
+    )?;
+    Ok(Begun { word, at })
 }
 
 // Frames as words, four to a frame: function, counter, base, closure.
 pub fn new_coroutine_flat(
-    heap: Heap,
+    heap: &mut Heap,
     slots: &mut [u64],
     scalars: &mut [u64],
     list: &[u64],
@@ -423,9 +336,9 @@ pub fn new_coroutine_flat(
     k: Coroutine,
     registers: &[u64],
     frames: &[u64],
-) -> Made
-    requires { Good (state heap slots.old scalars.old list.now directory.old cells.old) }
-    ensures { Performs (call_of k registers.now (frames_in frames.now 0 (length frames.now / 4))) (state heap slots.old scalars.old list.now directory.old cells.old) (made_is result.answer) (state result.heap slots.new scalars.new list.now directory.new cells.new) }
+) -> Result<u64, Refusal>
+    requires { Good (state heap.old slots.old scalars.old list.now directory.old cells.old) }
+    ensures { Performs (call_of k registers.now (frames_in frames.now 0 (length frames.now / 4))) (state heap.old slots.old scalars.old list.now directory.old cells.old) (made_is result) (state heap.new slots.new scalars.new list.now directory.new cells.new) }
 {
     let b = begin(
         heap,
@@ -437,11 +350,9 @@ pub fn new_coroutine_flat(
         k,
         registers,
         frames.len() / 4,
-    );
-    let end = b.count * 4;
-    heap_cells::copy_words(&frames[0..end], cells, b.at);
-    let made = b.made;
-    made
+    )?;
+    heap_cells::copy_words(&frames[..frames.len() / 4 * 4], cells, b.at);
+    Ok(b.word)
 }
 
 // Frame k's four words, in the cells from `at` on.
@@ -456,20 +367,18 @@ fn put_frame(cells: &mut [u64], at: usize, k: usize, f: Frame)
     cells[p + 3] = f.closure;
 }
 
-// The first n frames of the lent list, field by field into the cells.
-fn copy_frames(frames: &[Frame], cells: &mut [u64], at: usize, n: usize)
-    requires { (n ≤ length frames.now) × (at + 4 * n ≤ length cells.old) }
-    ensures { cells.new ≡ copied (take n frames.now) cells.old at }
+// The frames of the lent list, field by field into the cells.
+fn copy_frames(frames: &[Frame], cells: &mut [u64], at: usize)
+    requires { at + 4 * length frames.now ≤ length cells.old }
+    ensures { cells.new ≡ copied frames.now cells.old at }
 {
-    let mut i = 0;
-    while i < n {
-        put_frame(cells, at, i, frames[i]);
-        i += 1;
+    for (i, frame) in frames.iter().enumerate() {
+        put_frame(cells, at, i, *frame);
     }
 }
 
 pub fn new_coroutine(
-    heap: Heap,
+    heap: &mut Heap,
     slots: &mut [u64],
     scalars: &mut [u64],
     list: &[u64],
@@ -478,9 +387,9 @@ pub fn new_coroutine(
     k: Coroutine,
     registers: &[u64],
     frames: &[Frame],
-) -> Made
-    requires { Good (state heap slots.old scalars.old list.now directory.old cells.old) }
-    ensures { Performs (call_of k registers.now frames.now) (state heap slots.old scalars.old list.now directory.old cells.old) (made_is result.answer) (state result.heap slots.new scalars.new list.now directory.new cells.new) }
+) -> Result<u64, Refusal>
+    requires { Good (state heap.old slots.old scalars.old list.now directory.old cells.old) }
+    ensures { Performs (call_of k registers.now frames.now) (state heap.old slots.old scalars.old list.now directory.old cells.old) (made_is result) (state heap.new slots.new scalars.new list.now directory.new cells.new) }
 {
     let b = begin(
         heap,
@@ -492,7 +401,7 @@ pub fn new_coroutine(
         k,
         registers,
         frames.len(),
-    );
-    copy_frames(frames, cells, b.at, b.count);
-    b.made
+    )?;
+    copy_frames(frames, cells, b.at);
+    Ok(b.word)
 }

@@ -8,12 +8,12 @@ ghost use Rattle.heap.specs.Good.{Good};
 ghost use Rattle.heap.specs.Placing.{Object, RegionObject};
 ghost use Rattle.heap_allocation.specs.Making.{Finishes, MadePlain, MadeWords, Placeable, Prepared, Scalarless, headerOf, with_next};
 
-use heap::{Done, Heap, Made, Reading, Settled, placing};
+use heap::{Heap, Refusal, placing};
 use heap_slots::{Header, Scalars, kinds};
 
 // An object without cells: kind, value, mode and len are the header's.
 pub fn new_plain(
-    heap: Heap,
+    heap: &mut Heap,
     slots: &mut [u64],
     scalars: &[u64],
     list: &[u64],
@@ -21,24 +21,17 @@ pub fn new_plain(
     cells: &[u64],
     header: Header,
     bytes: u64,
-) -> Made
-    requires { Good (state heap slots.old scalars.now list.now directory.now cells.now) × Scalarless (with_region header 0 0 0) [] }
-    ensures { MadePlain (state heap slots.old scalars.now list.now directory.now cells.now) (state heap slots.old scalars.now list.now directory.now cells.now) header bytes result.answer (state result.heap slots.new scalars.now list.now directory.now cells.now) }
+) -> Result<u64, Refusal>
+    requires { Good (state heap.old slots.old scalars.now list.now directory.now cells.now) × Scalarless (with_region header 0 0 0) [] }
+    ensures { MadePlain (state heap.old slots.old scalars.now list.now directory.now cells.now) (state heap.old slots.old scalars.now list.now directory.now cells.now) header bytes result (state heap.new slots.new scalars.now list.now directory.now cells.now) }
 {
-    match placing::judge_new(heap, cells.len() as u64, bytes, 0) {
-        Done::Refused(q) => Made {
-            heap,
-            answer: Reading::Refused(q),
-        },
-        Done::Accepted => {
-            placing::place_plain(heap, slots, scalars, list, directory, cells, header, bytes)
-        }
-    }
+    placing::judge_new(heap, cells.len() as u64, bytes, 0)?;
+    placing::place_plain(heap, slots, scalars, list, directory, cells, header, bytes)
 }
 
 // An object without cells that has scalars.
 pub fn new_with_scalars(
-    heap: Heap,
+    heap: &mut Heap,
     slots: &mut [u64],
     scalars: &mut [u64],
     list: &[u64],
@@ -47,21 +40,14 @@ pub fn new_with_scalars(
     header: Header,
     more: Scalars,
     bytes: u64,
-) -> Made
-    requires { Good (state heap slots.old scalars.old list.now directory.now cells.now) × Object (with_region header 0 0 0) [] more }
-    ensures { MadePlain (state heap slots.old scalars.old list.now directory.now cells.now) (with_next (state heap slots.old scalars.old list.now directory.now cells.now) more) header bytes result.answer (state result.heap slots.new scalars.new list.now directory.now cells.now) }
+) -> Result<u64, Refusal>
+    requires { Good (state heap.old slots.old scalars.old list.now directory.now cells.now) × Object (with_region header 0 0 0) [] more }
+    ensures { MadePlain (state heap.old slots.old scalars.old list.now directory.now cells.now) (with_next (state heap.old slots.old scalars.old list.now directory.now cells.now) more) header bytes result (state heap.new slots.new scalars.new list.now directory.now cells.now) }
 {
-    match placing::judge_new(heap, cells.len() as u64, bytes, 0) {
-        Done::Refused(q) => Made {
-            heap,
-            answer: Reading::Refused(q),
-        },
-        Done::Accepted => {
-            let i = placing::next_slot(list, heap.fresh, heap.free);
-            heap_slots::write_scalars(scalars, i as usize, more);
-            placing::place_plain(heap, slots, scalars, list, directory, cells, header, bytes)
-        }
-    }
+    placing::judge_new(heap, cells.len() as u64, bytes, 0)?;
+    let i = placing::next_slot(list, heap.fresh, heap.free);
+    heap_slots::write_scalars(scalars, i as usize, more);
+    placing::place_plain(heap, slots, scalars, list, directory, cells, header, bytes)
 }
 
 // A base weight and eight bytes for each of n words.
@@ -74,7 +60,7 @@ pub(crate) fn word_bytes(base: u64, n: u64) -> u64
 
 // 5, 6, 7 judged; an accepted object of `size` cells then has room for them at the top.
 pub(crate) fn prepare(
-    heap: Heap,
+    heap: &mut Heap,
     slots: &mut [u64],
     scalars: &[u64],
     list: &[u64],
@@ -82,34 +68,20 @@ pub(crate) fn prepare(
     cells: &mut [u64],
     bytes: u64,
     size: u64,
-) -> Settled
-    requires { Good (state heap slots.old scalars.now list.now directory.old cells.old) }
-    ensures { Prepared (state heap slots.old scalars.now list.now directory.old cells.old) bytes size result.done (state result.heap slots.new scalars.now list.now directory.new cells.new) }
+) -> Result<(), Refusal>
+    requires { Good (state heap.old slots.old scalars.now list.now directory.old cells.old) }
+    ensures { Prepared (state heap.old slots.old scalars.now list.now directory.old cells.old) bytes size result (state heap.new slots.new scalars.now list.now directory.new cells.new) }
 {
-    match placing::judge_new(heap, cells.len() as u64, bytes, size) {
-        Done::Refused(q) => Settled {
-            heap,
-            done: Done::Refused(q),
-        },
-        Done::Accepted => {
-            if size == 0 {
-                return Settled {
-                    heap,
-                    done: Done::Accepted,
-                };
-            }
-            let roomy = placing::make_room(heap, slots, scalars, list, directory, cells, size);
-            Settled {
-                heap: roomy,
-                done: Done::Accepted,
-            }
-        }
+    placing::judge_new(heap, cells.len() as u64, bytes, size)?;
+    if size != 0 {
+        placing::make_room(heap, slots, scalars, list, directory, cells, size);
     }
+    Ok(())
 }
 
 // The object is placed, with the cells at the top if it has any.
 pub(crate) fn finish(
-    heap: Heap,
+    heap: &mut Heap,
     slots: &mut [u64],
     scalars: &[u64],
     list: &[u64],
@@ -117,19 +89,20 @@ pub(crate) fn finish(
     cells: &[u64],
     header: Header,
     bytes: u64,
-) -> Made
-    requires { Placeable (state heap slots.old scalars.now list.now directory.old cells.now) bytes header.size × RegionObject (state heap slots.old scalars.now list.now directory.old cells.now) header }
-    ensures { Finishes (state heap slots.old scalars.now list.now directory.old cells.now) header bytes result.answer (state result.heap slots.new scalars.now list.now directory.new cells.now) }
+) -> Result<u64, Refusal>
+    requires { Placeable (state heap.old slots.old scalars.now list.now directory.old cells.now) bytes header.size × RegionObject (state heap.old slots.old scalars.now list.now directory.old cells.now) header }
+    ensures { Finishes (state heap.old slots.old scalars.now list.now directory.old cells.now) header bytes result (state heap.new slots.new scalars.now list.now directory.new cells.now) }
 {
     if header.size == 0 {
-        return placing::place_plain(heap, slots, scalars, list, directory, cells, header, bytes);
+        placing::place_plain(heap, slots, scalars, list, directory, cells, header, bytes)
+    } else {
+        placing::place_region(heap, slots, scalars, list, directory, cells, header, bytes)
     }
-    placing::place_region(heap, slots, scalars, list, directory, cells, header, bytes)
 }
 
 // An object whose cells are lent words.
 pub(crate) fn new_words(
-    heap: Heap,
+    heap: &mut Heap,
     slots: &mut [u64],
     scalars: &[u64],
     list: &[u64],
@@ -139,39 +112,28 @@ pub(crate) fn new_words(
     value: u64,
     mode: u64,
     words: &[u64],
-) -> Made
-    requires { Good (state heap slots.old scalars.now list.now directory.old cells.old) × Scalarless (headerOf kind value mode (length words.now) (length words.now)) words.now }
-    ensures { MadeWords (state heap slots.old scalars.now list.now directory.old cells.old) (headerOf kind value mode (length words.now) (length words.now)) (saturated (heap.weights.slot + 8 * length words.now)) words.now result.answer (state result.heap slots.new scalars.now list.now directory.new cells.new) × Good (state result.heap slots.new scalars.now list.now directory.new cells.new) }
+) -> Result<u64, Refusal>
+    requires { Good (state heap.old slots.old scalars.now list.now directory.old cells.old) × Scalarless (headerOf kind value mode (length words.now) (length words.now)) words.now }
+    ensures { MadeWords (state heap.old slots.old scalars.now list.now directory.old cells.old) (headerOf kind value mode (length words.now) (length words.now)) (saturated (heap.old.weights.slot + 8 * length words.now)) words.now result (state heap.new slots.new scalars.now list.now directory.new cells.new) × Good (state heap.new slots.new scalars.now list.now directory.new cells.new) }
 {
-    let weights = heap.weights;
     let n = words.len() as u64;
-    let bytes = word_bytes(weights.slot, n);
-    let p = prepare(heap, slots, scalars, list, directory, cells, bytes, n);
-    let roomy = p.heap;
-    let done = p.done;
-    match done {
-        Done::Refused(q) => Made {
-            heap: roomy,
-            answer: Reading::Refused(q),
-        },
-        Done::Accepted => {
-            heap_cells::copy_words(words, cells, roomy.top as usize);
-            let h = Header {
-                kind,
-                value,
-                mode,
-                len: n,
-                size: n,
-                ..Header::EMPTY
-            };
-            finish(roomy, slots, scalars, list, directory, cells, h, bytes)
-        }
-    }
+    let bytes = word_bytes(heap.weights.slot, n);
+    prepare(heap, slots, scalars, list, directory, cells, bytes, n)?;
+    heap_cells::copy_words(words, cells, heap.top as usize);
+    let h = Header {
+        kind,
+        value,
+        mode,
+        len: n,
+        size: n,
+        ..Header::EMPTY
+    };
+    finish(heap, slots, scalars, list, directory, cells, h, bytes)
 }
 
 // An array of n nil words.
 pub(crate) fn new_items(
-    heap: Heap,
+    heap: &mut Heap,
     slots: &mut [u64],
     scalars: &[u64],
     list: &[u64],
@@ -179,30 +141,19 @@ pub(crate) fn new_items(
     cells: &mut [u64],
     t: u64,
     n: u64,
-) -> Made
-    requires { Good (state heap slots.old scalars.now list.now directory.old cells.old) }
-    ensures { MadeWords (state heap slots.old scalars.now list.now directory.old cells.old) (headerOf ARRAY 0 t n n) (saturated (heap.weights.slot + 8 * n)) (replicate n 0) result.answer (state result.heap slots.new scalars.now list.now directory.new cells.new) × Good (state result.heap slots.new scalars.now list.now directory.new cells.new) }
+) -> Result<u64, Refusal>
+    requires { Good (state heap.old slots.old scalars.now list.now directory.old cells.old) }
+    ensures { MadeWords (state heap.old slots.old scalars.now list.now directory.old cells.old) (headerOf ARRAY 0 t n n) (saturated (heap.old.weights.slot + 8 * n)) (replicate n 0) result (state heap.new slots.new scalars.now list.now directory.new cells.new) × Good (state heap.new slots.new scalars.now list.now directory.new cells.new) }
 {
-    let weights = heap.weights;
-    let bytes = word_bytes(weights.slot, n);
-    let p = prepare(heap, slots, scalars, list, directory, cells, bytes, n);
-    let roomy = p.heap;
-    let done = p.done;
-    match done {
-        Done::Refused(q) => Made {
-            heap: roomy,
-            answer: Reading::Refused(q),
-        },
-        Done::Accepted => {
-            heap_cells::fill(cells, roomy.top as usize, n as usize);
-            let h = Header {
-                kind: kinds::ARRAY,
-                mode: t,
-                len: n,
-                size: n,
-                ..Header::EMPTY
-            };
-            finish(roomy, slots, scalars, list, directory, cells, h, bytes)
-        }
-    }
+    let bytes = word_bytes(heap.weights.slot, n);
+    prepare(heap, slots, scalars, list, directory, cells, bytes, n)?;
+    heap_cells::fill(cells, heap.top as usize, n as usize);
+    let h = Header {
+        kind: kinds::ARRAY,
+        mode: t,
+        len: n,
+        size: n,
+        ..Header::EMPTY
+    };
+    finish(heap, slots, scalars, list, directory, cells, h, bytes)
 }

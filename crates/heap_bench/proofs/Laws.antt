@@ -1,5 +1,5 @@
 -- One law for a turn of every loop: what is left comes to the whole.
-use Rattle.std.proofs.Common.{◌≡◌, ℕ, suc, ◌+◌, ◌-◌, ◌%◌, ◌<◌, ◌≤◌, List, [], ◌∷◌, ◌++◌, length, take, set, sym, refl, ap, ◌∙◌, subst, append-nil, add-one, arith, length-set, take_all, take-suc-set}
+use Rattle.std.proofs.Common.{◌≡◌, ℕ, suc, ◌+◌, ◌-◌, ◌%◌, ◌<◌, ◌≤◌, List, [], ◌∷◌, ◌++◌, length, take, set, sym, refl, ap, ◌∙◌, subst, append-nil, add-one, arith, length-set, take_all, take-suc-set, Option, Some, None, Result, Ok, Err}
 use lib.Seq.{append_snoc}
 use Rattle.layout.specs.Layout.{Layout}
 use Rattle.model.specs.Calls.{Call, collect}
@@ -8,45 +8,40 @@ use Rattle.model.specs.Model.{Model}
 use Rattle.model.specs.Step.{step}
 use Rattle.history.proofs.Lift.{Seen, seen, seen_all}
 use Rattle.answers.specs.Shows.{answer_shown, or_zero, reply_shown, shown_of, with_lent}
-use Rattle.heap.specs.Answers.{made_is, reading_is}
+use Rattle.heap.specs.Answers.{made_is, reading_is, seen_by}
 use Rattle.heap.specs.State.{State, model_of, with_heap}
 use Rattle.heap.specs.Good.{Good, Rested}
 use Rattle.layout.specs.Sections.{Tabled}
 use Rattle.heap.specs.Promise.{Performs, Does}
 use Rattle.heap.specs.declared.Heap.{Heap}
-use Rattle.heap.specs.declared.Reading.{Reading}
-use Rattle.heap.specs.declared.Reading.TheVariants as Read
+use Rattle.heap.specs.declared.Refusal.{Refusal}
 use Rattle.collections_growth.specs.Answers.{perhaps_is}
-use Rattle.collections_growth.specs.declared.Perhaps.{Perhaps}
-use Rattle.collections_growth.specs.declared.Perhaps.TheVariants as P
-use Rattle.heap.specs.declared.Opened.TheVariants.{Refused}
 use Rattle.collector.specs.Answer.{collection_is}
 use Rattle.collector.specs.declared.Collection.{Collection}
-use Rattle.collector.specs.declared.Collection.TheVariants as C
 use Rattle.model.specs.Replies.{list}
 use Rattle.heap_bench.specs.Loops.{Collects, Filled, Ran, Summed, calls, freed_word, word_read, total, visit_word, words, word_shown}
 
 -- the words of answers are what is shown
-pub read_word : (a : Reading) → word_read a ≡ word_shown (reading_is a)
-unfolding word_read shown_of with_lent answer_shown reply_shown reading_is
-read_word (Read.Is w) = refl
-read_word (Read.Refused q) = refl
+pub read_word : (a : Result ℕ Refusal) → word_read a ≡ word_shown (reading_is a)
+unfolding shown_of with_lent answer_shown reply_shown seen_by
+read_word (Ok w) = refl
+read_word (Err q) = refl
 
-pub made_word : (a : Reading) → word_read a ≡ word_shown (made_is a)
-unfolding word_read shown_of with_lent answer_shown reply_shown made_is
-made_word (Read.Is w) = refl
-made_word (Read.Refused q) = refl
+pub made_word : (a : Result ℕ Refusal) → word_read a ≡ word_shown (made_is a)
+unfolding shown_of with_lent answer_shown reply_shown seen_by
+made_word (Ok w) = refl
+made_word (Err q) = refl
 
-pub visit-word : (a : Perhaps) → visit_word a ≡ word_shown (perhaps_is a)
-unfolding visit_word shown_of with_lent answer_shown reply_shown perhaps_is or_zero
-visit-word (P.Is w) = refl
-visit-word P.Absent = refl
-visit-word (P.Refused q) = refl
+pub visit-word : (a : Result (Option ℕ) Refusal) → visit_word a ≡ word_shown (perhaps_is a)
+unfolding shown_of with_lent answer_shown reply_shown seen_by or_zero
+visit-word (Ok (Some w)) = refl
+visit-word (Ok None) = refl
+visit-word (Err q) = refl
 
-freed-word : (a : Collection) (ws : List ℕ) → freed_word a ≡ word_shown (collection_is a ws)
+freed-word : (a : Result Collection Refusal) (ws : List ℕ) → freed_word a ≡ word_shown (collection_is a ws)
 unfolding freed_word shown_of with_lent answer_shown reply_shown collection_is
-freed-word (C.Done freed listed) ws = refl
-freed-word (C.Refused q) ws = refl
+freed-word (Ok c) ws = refl
+freed-word (Err q) ws = refl
 
 -- the buffers are as long as they were
 pub record Sizes (b a : State) : Type 0 where
@@ -54,6 +49,9 @@ pub record Sizes (b a : State) : Type 0 where
   pub scalars : length a.scalars ≡ length b.scalars
   pub directory : length a.directory ≡ length b.directory
   pub cells : length a.cells ≡ length b.cells
+
+pub same_sizes : (b : State) → Sizes b b
+same_sizes b = record { slots = refl; scalars = refl; directory = refl; cells = refl }
 
 none_yet : (t : ℕ) → 0 + t ≡ t
 none_yet t = omega arith
@@ -185,12 +183,12 @@ module _ {k k' : ℕ → Call} (e : k ≡ k') where
   filled-same b {out = out} F = subst (λ (x : ℕ → Call). Filled x b out) e F
 
 -- a collection
-lent_is : (x : Collection) (ws : List ℕ) → list ws ≡ (collection_is x ws).lent
+lent_is : (x : Result Collection Refusal) (ws : List ℕ) → list ws ≡ (collection_is x ws).lent
 unfolding collection_is
-lent_is (C.Done freed listed) ws = refl
-lent_is (C.Refused q) ws = refl
+lent_is (Ok c) ws = refl
+lent_is (Err q) ws = refl
 
-pub collects : (l : Layout) (roots places : List ℕ) (b a : State) (h : Heap) (x : Collection) (ws : List ℕ) → h ≡ b.heap → Does l (collect roots places) (with_heap b h) (collection_is x ws) a
+pub collects : (l : Layout) (roots places : List ℕ) (b a : State) (h : Heap) (x : Result Collection Refusal) (ws : List ℕ) → h ≡ b.heap → Does l (collect roots places) (with_heap b h) (collection_is x ws) a
     → (r : ℕ) → r ≡ freed_word x → (h' : Heap) → h' ≡ a.heap → Collects l roots places b r ws (with_heap a h')
 unfolding seen
 collects l roots places b a h x ws e D r f h' g =

@@ -1,5 +1,6 @@
 -- The calls that each loop makes, and what a loop promises.
-use Rattle.std.specs.Prelude.{◌≡◌, ℕ, zero, suc, ◌+◌, ◌%◌, List, [], ◌∷◌, map, length, ℤ, slice_index}
+use Rattle.std.specs.Prelude.{◌≡◌, ℕ, zero, suc, ◌+◌, ◌%◌, List, [], ◌∷◌, map, length, ℤ, slice_index, Option, None, Result, Ok, Err, unwrap_or}
+use Rattle.std.specs.Result.{result_unwrap_or}
 use Rattle.layout.specs.Layout.{Layout}
 use Rattle.model.specs.Calls as Calls
 use Rattle.model.specs.Calls.{Call}
@@ -11,12 +12,8 @@ use Rattle.history.proofs.Lift.{Seen, seen, seen_all}
 use Rattle.answers.specs.Shows.{shown_of}
 use Rattle.heap.specs.State.{State, model_of}
 use Rattle.heap.specs.Good.{Good}
-use Rattle.heap.specs.declared.Reading.{Reading}
-use Rattle.heap.specs.declared.Reading.TheVariants as Read
-use Rattle.collections_growth.specs.declared.Perhaps.{Perhaps}
-use Rattle.collections_growth.specs.declared.Perhaps.TheVariants as P
+use Rattle.heap.specs.declared.Refusal.{Refusal}
 use Rattle.collector.specs.declared.Collection.{Collection}
-use Rattle.collector.specs.declared.Collection.TheVariants as C
 
 -- call i of each loop; ws, ps, vs, hs, ks: the lent words, positions, values, hashes, keys
 abbrev pub box_reads : List ℕ → ℕ → Call
@@ -91,18 +88,15 @@ abbrev pub Filled : (ℕ → Call) → State → List ℕ → Type 0
 Filled k b out = (l : Layout) → out ≡ words (model_of l b) (calls k 0 (length out))
 
 -- the words of answers
-unfoldable pub word_read : Reading → ℕ
-word_read (Read.Is w) = w
-word_read (Read.Refused q) = 0
+abbrev pub word_read : Result ℕ Refusal → ℕ
+word_read r = result_unwrap_or r 0
 
-unfoldable pub visit_word : Perhaps → ℕ
-visit_word (P.Is w) = w
-visit_word P.Absent = 0
-visit_word (P.Refused q) = 0
+abbrev pub visit_word : Result (Option ℕ) Refusal → ℕ
+visit_word r = unwrap_or (result_unwrap_or r None) 0
 
-unfoldable pub freed_word : Collection → ℕ
-freed_word (C.Done freed listed) = freed
-freed_word (C.Refused q) = 0
+unfoldable pub freed_word : Result Collection Refusal → ℕ
+freed_word (Ok c) = c.freed
+freed_word (Err q) = 0
 
 -- a collection on the state b, which freed r objects, left the lent list as ws and the state as a
 pub record Collects (l : Layout) (roots places : List ℕ) (b : State) (r : ℕ) (ws : List ℕ) (a : State) : Type 0 where

@@ -8,43 +8,10 @@ ghost use Rattle.heap.specs.State.{state};
 ghost use Rattle.heap.specs.Good.{Good, Rested};
 ghost use Rattle.heap.specs.Opens.{beside, new_heap, opening_of};
 ghost use Rattle.heap_record.specs.Record.{OpensWords, loaded, weights_in};
-ghost use Rattle.heap_bench.specs.Loops.{Collects, Filled, Ran, Summed, arrays, box_reads, box_stores, boxes, finds, freed_word, item_reads, item_stores, iterators, maps, pops, pushes, puts, word_read, removals, steps, visit_word};
+ghost use Rattle.heap_bench.specs.Loops.{Collects, Filled, Ran, Summed, arrays, box_reads, box_stores, boxes, finds, item_reads, item_stores, iterators, maps, pops, pushes, puts, removals, steps};
 
-use collections_growth::Perhaps;
-use collector::Collection;
-use heap::{Heap, Reading};
+use heap::HeapView;
 use layout::ReadLayout;
-
-// The word read or made; 0 for a refusal.
-fn word(a: Reading) -> u64
-    ensures { result ≡ word_read a }
-{
-    match a {
-        Reading::Is(w) => w,
-        Reading::Refused(q) => 0,
-    }
-}
-
-// The position or the item; 0 for none.
-fn visited(a: Perhaps) -> u64
-    ensures { result ≡ visit_word a }
-{
-    match a {
-        Perhaps::Is(w) => w,
-        Perhaps::Absent => 0,
-        Perhaps::Refused(q) => 0,
-    }
-}
-
-// The objects freed; 0 for a refusal.
-fn freed(a: Collection) -> u64
-    ensures { result ≡ freed_word a }
-{
-    match a {
-        Collection::Done(n, listed) => n,
-        Collection::Refused(q) => 0,
-    }
-}
 
 // The boxes' words: their sum, modulo 2^64.
 #[unsafe(no_mangle)]
@@ -60,14 +27,18 @@ pub extern "C" fn heap_bench_read_box(
     requires { Good (state (loaded heap.now) slots.now scalars.now list.now directory.now cells.now) }
     ensures { Summed (box_reads words.now) (length words.now) (state (loaded heap.now) slots.now scalars.now list.now directory.now cells.now) result }
 {
-    let h = heap_record::load(heap);
-    let mut i: usize = 0;
+    let view = HeapView {
+        heap: heap_record::load(heap),
+        slots,
+        scalars,
+        list,
+        directory,
+        cells,
+    };
     let mut sum: u64 = 0;
-    while i < words.len() {
-        let w = words[i];
-        let r = heap_access::readings::read_box(h, slots, scalars, list, directory, cells, w);
-        sum = std::num::wrapping_add_u64(sum, word(r));
-        i += 1;
+    for w in words {
+        let word = heap_access::readings::read_box(&view, *w).unwrap_or(0);
+        sum = sum.wrapping_add(word);
     }
     sum
 }
@@ -89,12 +60,9 @@ pub extern "C" fn heap_bench_store_box(
     ensures { Ran (box_stores words.now values.now) (length words.now) (state (loaded heap.now) slots.old scalars.now list.now directory.now cells.now) (state (loaded heap.now) slots.new scalars.now list.now directory.now cells.now) }
 {
     let h = heap_record::load(heap);
-    let mut i: usize = 0;
-    while i < words.len() {
-        let w = words[i];
+    for (i, w) in words.iter().enumerate() {
         let v = values[i];
-        let _ = heap_access::stores::store_box(h, slots, scalars, list, directory, cells, w, v);
-        i += 1;
+        let _ = heap_access::stores::store_box(&h, slots, scalars, list, directory, cells, *w, v);
     }
 }
 
@@ -114,15 +82,18 @@ pub extern "C" fn heap_bench_read_item(
     requires positions_len { length positions.now ≡ length words.now }
     ensures { Summed (item_reads words.now positions.now) (length words.now) (state (loaded heap.now) slots.now scalars.now list.now directory.now cells.now) result }
 {
-    let h = heap_record::load(heap);
-    let mut i: usize = 0;
+    let view = HeapView {
+        heap: heap_record::load(heap),
+        slots,
+        scalars,
+        list,
+        directory,
+        cells,
+    };
     let mut sum: u64 = 0;
-    while i < words.len() {
-        let w = words[i];
-        let p = positions[i];
-        let r = heap_access::readings::read_item(h, slots, scalars, list, directory, cells, w, p);
-        sum = std::num::wrapping_add_u64(sum, word(r));
-        i += 1;
+    for (i, w) in words.iter().enumerate() {
+        let item = heap_access::readings::read_item(&view, *w, positions[i]).unwrap_or(0);
+        sum = sum.wrapping_add(item);
     }
     sum
 }
@@ -145,12 +116,11 @@ pub extern "C" fn heap_bench_store_item(
     ensures { Ran (item_stores words.now positions.now v) (length words.now) (state (loaded heap.now) slots.now scalars.now list.now directory.now cells.old) (state (loaded heap.now) slots.now scalars.now list.now directory.now cells.new) }
 {
     let h = heap_record::load(heap);
-    let mut i: usize = 0;
-    while i < words.len() {
-        let w = words[i];
+    for (i, w) in words.iter().enumerate() {
         let p = positions[i];
-        let _ = heap_access::stores::store_item(h, slots, scalars, list, directory, cells, w, p, v);
-        i += 1;
+        let _ = heap_access::stores::store_item(
+            &h, slots, scalars, list, directory, cells, *w, p, v,
+        );
     }
 }
 
@@ -171,13 +141,9 @@ pub extern "C" fn heap_bench_new_box(
     ensures filled { Filled (boxes w) (state (loaded heap.old) slots.old scalars.now list.now directory.now cells.now) out.new }
 {
     let mut h = heap_record::load(heap);
-    let mut i: usize = 0;
-    while i < out.len() {
-        let r = heap_allocation::new_box(h, slots, scalars, list, directory, cells, w);
-        let answer = r.answer;
-        out[i] = word(answer);
-        h = r.heap;
-        i += 1;
+    for place in out.iter_mut() {
+        let made = heap_allocation::new_box(&mut h, slots, scalars, list, directory, cells, w);
+        *place = made.unwrap_or(0);
     }
     heap_record::save(heap, h);
 }
@@ -200,13 +166,11 @@ pub extern "C" fn heap_bench_new_array(
     ensures filled { Filled (arrays t size) (state (loaded heap.old) slots.old scalars.now list.now directory.old cells.old) out.new }
 {
     let mut h = heap_record::load(heap);
-    let mut i: usize = 0;
-    while i < out.len() {
-        let r = heap_allocation::new_array(h, slots, scalars, list, directory, cells, t, size);
-        let answer = r.answer;
-        out[i] = word(answer);
-        h = r.heap;
-        i += 1;
+    for place in out.iter_mut() {
+        let made = heap_allocation::new_array(
+            &mut h, slots, scalars, list, directory, cells, t, size,
+        );
+        *place = made.unwrap_or(0);
     }
     heap_record::save(heap, h);
 }
@@ -227,13 +191,11 @@ pub extern "C" fn heap_bench_new_map(
     ensures filled { Filled (maps) (state (loaded heap.old) slots.old scalars.old list.now directory.now cells.now) out.new }
 {
     let mut h = heap_record::load(heap);
-    let mut i: usize = 0;
-    while i < out.len() {
-        let r = collections_maps::changes::new_map(h, slots, scalars, list, directory, cells, 0, 0);
-        let answer = r.answer;
-        out[i] = word(answer);
-        h = r.heap;
-        i += 1;
+    for place in out.iter_mut() {
+        let made = collections_maps::changes::new_map(
+            &mut h, slots, scalars, list, directory, cells, 0, 0,
+        );
+        *place = made.unwrap_or(0);
     }
     heap_record::save(heap, h);
 }
@@ -255,13 +217,11 @@ pub extern "C" fn heap_bench_new_iter(
     ensures filled { Filled (iterators source) (state (loaded heap.old) slots.old scalars.old list.now directory.now cells.now) out.new }
 {
     let mut h = heap_record::load(heap);
-    let mut i: usize = 0;
-    while i < out.len() {
-        let r = collections_iterators::new_iter(h, slots, scalars, list, directory, cells, source);
-        let answer = r.answer;
-        out[i] = word(answer);
-        h = r.heap;
-        i += 1;
+    for place in out.iter_mut() {
+        let made = collections_iterators::new_iter(
+            &mut h, slots, scalars, list, directory, cells, source,
+        );
+        *place = made.unwrap_or(0);
     }
     heap_record::save(heap, h);
 }
@@ -282,12 +242,8 @@ pub extern "C" fn heap_bench_push(
     ensures { Ran (pushes w values.now) (length values.now) (state (loaded heap.old) slots.old scalars.now list.now directory.old cells.old) (state (loaded heap.new) slots.new scalars.now list.now directory.new cells.new) }
 {
     let mut h = heap_record::load(heap);
-    let mut i: usize = 0;
-    while i < values.len() {
-        let v = values[i];
-        let r = collections_arrays::push(h, slots, scalars, list, directory, cells, w, v);
-        h = r.heap;
-        i += 1;
+    for v in values {
+        let _ = collections_arrays::push(&mut h, slots, scalars, list, directory, cells, w, *v);
     }
     heap_record::save(heap, h);
 }
@@ -309,12 +265,10 @@ pub extern "C" fn heap_bench_pop(
     ensures summed { Summed (pops w) n (state (loaded heap.now) slots.old scalars.now list.now directory.now cells.now) result }
 {
     let h = heap_record::load(heap);
-    let mut i: usize = 0;
     let mut sum: u64 = 0;
-    while i < n {
-        let r = collections_arrays::pop(h, slots, scalars, list, directory, cells, w);
-        sum = std::num::wrapping_add_u64(sum, word(r));
-        i += 1;
+    for _ in 0..n {
+        let item = collections_arrays::pop(&h, slots, scalars, list, directory, cells, w);
+        sum = sum.wrapping_add(item.unwrap_or(0));
     }
     sum
 }
@@ -337,15 +291,10 @@ pub extern "C" fn heap_bench_put(
     ensures { Ran (puts w hashes.now keys.now) (length keys.now) (state (loaded heap.old) slots.old scalars.old list.now directory.old cells.old) (state (loaded heap.new) slots.new scalars.new list.now directory.new cells.new) }
 {
     let mut h = heap_record::load(heap);
-    let mut i: usize = 0;
-    while i < keys.len() {
-        let hash = hashes[i];
-        let key = keys[i];
-        let r = collections_maps::changes::put(
-            h, slots, scalars, list, directory, cells, w, hash, key, key,
+    for (i, key) in keys.iter().enumerate() {
+        let _ = collections_maps::changes::put(
+            &mut h, slots, scalars, list, directory, cells, w, hashes[i], *key, *key,
         );
-        h = r.heap;
-        i += 1;
     }
     heap_record::save(heap, h);
 }
@@ -367,17 +316,18 @@ pub extern "C" fn heap_bench_find(
     requires hashes_len { length hashes.now ≡ length keys.now }
     ensures { Summed (finds w hashes.now keys.now) (length keys.now) (state (loaded heap.now) slots.now scalars.now list.now directory.now cells.now) result }
 {
-    let h = heap_record::load(heap);
-    let mut i: usize = 0;
+    let view = HeapView {
+        heap: heap_record::load(heap),
+        slots,
+        scalars,
+        list,
+        directory,
+        cells,
+    };
     let mut sum: u64 = 0;
-    while i < keys.len() {
-        let hash = hashes[i];
-        let key = keys[i];
-        let r = collections_maps::readings::find(
-            h, slots, scalars, list, directory, cells, w, hash, key,
-        );
-        sum = std::num::wrapping_add_u64(sum, visited(r));
-        i += 1;
+    for (i, key) in keys.iter().enumerate() {
+        let found = collections_maps::readings::find(&view, w, hashes[i], *key);
+        sum = sum.wrapping_add(found.unwrap_or(None).unwrap_or(0));
     }
     sum
 }
@@ -400,15 +350,10 @@ pub extern "C" fn heap_bench_remove(
     ensures { Ran (removals w hashes.now keys.now) (length keys.now) (state (loaded heap.old) slots.old scalars.old list.now directory.old cells.old) (state (loaded heap.new) slots.new scalars.new list.now directory.new cells.new) }
 {
     let mut h = heap_record::load(heap);
-    let mut i: usize = 0;
-    while i < keys.len() {
-        let hash = hashes[i];
-        let key = keys[i];
-        let r = collections_maps::changes::remove(
-            h, slots, scalars, list, directory, cells, w, hash, key,
+    for (i, key) in keys.iter().enumerate() {
+        let _ = collections_maps::changes::remove(
+            &mut h, slots, scalars, list, directory, cells, w, hashes[i], *key,
         );
-        h = r.heap;
-        i += 1;
     }
     heap_record::save(heap, h);
 }
@@ -430,12 +375,10 @@ pub extern "C" fn heap_bench_iter_next(
     ensures summed { Summed (steps w) n (state (loaded heap.now) slots.now scalars.old list.now directory.now cells.now) result }
 {
     let h = heap_record::load(heap);
-    let mut i: usize = 0;
     let mut sum: u64 = 0;
-    while i < n {
-        let r = collections_iterators::iter_next(h, slots, scalars, list, directory, cells, w);
-        sum = std::num::wrapping_add_u64(sum, visited(r));
-        i += 1;
+    for _ in 0..n {
+        let item = collections_iterators::iter_next(&h, slots, scalars, list, directory, cells, w);
+        sum = sum.wrapping_add(item.unwrap_or(None).unwrap_or(0));
     }
     sum
 }
@@ -463,18 +406,19 @@ pub extern "C" fn heap_bench_collect(
     ensures marks_unchanged { marks.new ≡ marks.old }
     ensures order_unchanged { order.new ≡ order.old }
 {
-    let h = heap_record::load(heap);
+    let mut h = heap_record::load(heap);
     let read = ReadLayout {
         bytes: layout,
         table,
     };
-    let r = collector::collect(
-        h, slots, scalars, list, directory, cells, read, marks, order, roots, places,
+    let answer = collector::collect(
+        &mut h, slots, scalars, list, directory, cells, read, marks, order, roots, places,
     );
-    let after = r.heap;
-    heap_record::save(heap, after);
-    let answer = r.answer;
-    freed(answer)
+    heap_record::save(heap, h);
+    match answer {
+        Ok(collection) => collection.freed,
+        Err(_) => 0,
+    }
 }
 
 // A heap over the lent buffers; 10 leaves the record and every buffer as they were.

@@ -1,5 +1,5 @@
 -- The heap's record in nineteen words, and an opening that leaves them.
-use Rattle.std.specs.Prelude.{ℕ, ◌≡◌, ◌≢◌, cond, List, eqb, get_or}
+use Rattle.std.specs.Prelude.{ℕ, ◌≡◌, ◌≢◌, cond, List, eqb, get_or, Result, Ok, Err}
 use Rattle.account.specs.declared.Account.{Account}
 use Rattle.model.specs.Opening.{Opening}
 use Rattle.model.specs.declared.Weights.{Weights}
@@ -7,8 +7,7 @@ use Rattle.heap.specs.State.{State}
 use Rattle.heap.specs.Answers.{number_of}
 use Rattle.heap.specs.Opens.{Beside, Opens, opened_number}
 use Rattle.heap.specs.declared.Heap.{Heap}
-use Rattle.heap.specs.declared.Opened.{Opened}
-use Rattle.heap.specs.declared.Opened.TheVariants.{Ready, Refused}
+use Rattle.heap.specs.declared.Refusal.{Refusal}
 use Rattle.heap.specs.declared.Refusal.TheVariants.{BadOpening}
 
 -- the account, the weights, and the record's own numbers
@@ -38,13 +37,13 @@ loaded ws = record {
 }
 
 -- an opening that returned r and left these words
-unfoldable pub opened_in : ℕ → List ℕ → Opened
-opened_in r words = cond (eqb r 0) (Ready (loaded words)) (Refused BadOpening)
+unfoldable pub opened_in : ℕ → List ℕ → Result Heap Refusal
+opened_in r words = cond (eqb r 0) (Ok (loaded words)) (Err BadOpening)
 
 -- what became of an opening: the words before and after, and the number returned
-unfoldable pub Settles : Opened → List ℕ → ℕ → List ℕ → Type 0
-Settles (Ready h) before r after = (r ≡ 0) × (loaded after ≡ h)
-Settles (Refused q) before r after = (r ≡ number_of q) × (after ≡ before)
+unfoldable pub Settles : Result Heap Refusal → List ℕ → ℕ → List ℕ → Type 0
+Settles (Ok h) before r after = (r ≡ 0) × (loaded after ≡ h)
+Settles (Err q) before r after = (r ≡ number_of q) × (after ≡ before)
 
 -- t: the new record over the buffers; x and y: what is lent beside them, before and after
 pub record OpensWords (o : Opening) (t : State) (x : Beside) (before : List ℕ) (r : ℕ) (after : List ℕ) (y : Beside) : Type 0 where

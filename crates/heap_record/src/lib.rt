@@ -9,7 +9,7 @@ ghost use Rattle.heap.specs.Opens.{beside, new_heap, opening_of};
 ghost use Rattle.heap_record.specs.Record.{OpensWords, Settles, loaded, weights_in};
 
 use account::Account;
-use heap::{Heap, Opened};
+use heap::{Heap, Refusal};
 use model::Weights;
 
 // The record that nineteen words hold, and back.
@@ -86,15 +86,16 @@ fn load_weights(words: &[u64; 5]) -> Weights
 }
 
 // Keeps the record of a heap that was opened.
-fn settle(words: &mut [u64; 19], opened: Opened) -> u64
+#[tactic(auto, unfolding(crate::specs::Record::Settles))]
+fn settle(words: &mut [u64; 19], opened: Result<Heap, Refusal>) -> u64
     ensures { Settles opened words.old result words.new }
 {
     match opened {
-        Opened::Ready(heap) => {
+        Ok(heap) => {
             save(words, heap);
             0
-        }
-        Opened::Refused(q) => heap::number_of(q),
+        },
+        Err(q) => u64::from(q),
     }
 }
 
@@ -117,9 +118,19 @@ pub fn open(
 ) -> u64
     ensures { OpensWords (opening_of size (length cells.now) limit (weights_in weights.now) layout.now) (state (new_heap size limit (weights_in weights.now)) slots.now scalars.now list.now directory.now cells.now) (beside table.old marks.old order.old) words.old result words.new (beside table.new marks.new order.new) }
 {
-    let w = load_weights(weights);
     let opened = heap::open(
-        size, limit, w, layout, table, marks, order, slots, scalars, list, directory, cells,
+        size,
+        limit,
+        load_weights(weights),
+        layout,
+        table,
+        marks,
+        order,
+        slots,
+        scalars,
+        list,
+        directory,
+        cells,
     );
     settle(words, opened)
 }

@@ -4,76 +4,25 @@
 #![tactic(auto)]
 
 ghost use Rattle.std.specs.Prelude.{◌≡◌};
-ghost use Rattle.map_store.specs.View.{cursor_is};
-ghost use Rattle.model.specs.Calls as Calls;
-ghost use Rattle.heap.specs.Answers.{made_is};
-ghost use Rattle.heap.specs.State.{state};
 ghost use Rattle.heap.specs.Good.{Good};
-ghost use Rattle.heap.specs.Promise.{Performs, Reads};
-ghost use Rattle.heap_allocation.specs.Coroutines.{call_of};
-ghost use Rattle.collections_maps.specs.Answers.{lent_seen};
+ghost use Rattle.heap.specs.View.{held};
+ghost use Rattle.lent_forms.specs.Held.{Opened, held_in};
 
-use collections_growth::Perhaps;
-use heap::{Done, Heap, Made, Opened, Reading, Refusal};
-use heap_access::FrameRead;
+use heap::{Heap, HeapView, Refusal};
 use heap_allocation::Coroutine;
 use map_store::Cursor;
 use model::{Frame, Weights};
 use std::io;
 
-// The cursor after a step, and the answer.
-#[derive(Clone, Copy)]
-struct Moved {
-    cursor: Cursor,
-    answer: Perhaps,
-}
-
-// ---- the lent forms
-
-fn made_from(
+// A heap of four slots and 64 cells over its buffers.
+#[derive(Drop)]
+struct Small {
     heap: Heap,
-    slots: &mut [u64],
-    scalars: &mut [u64],
-    list: &[u64],
-    directory: &mut [u64],
-    cells: &mut [u64],
-    k: Coroutine,
-    registers: &[u64],
-    frames: [Frame; 2],
-) -> Made
-    requires { Good (state heap slots.old scalars.old list.now directory.old cells.old) }
-    ensures { Performs (call_of k registers.now frames) (state heap slots.old scalars.old list.now directory.old cells.old) (made_is result.answer) (state result.heap slots.new scalars.new list.now directory.new cells.new) }
-{
-    heap_allocation::new_coroutine(
-        heap, slots, scalars, list, directory, cells, k, registers, &frames,
-    )
-}
-
-fn next_from(
-    heap: Heap,
-    slots: &[u64],
-    scalars: &[u64],
-    list: &[u64],
-    directory: &[u64],
-    cells: &[u64],
-    w: u64,
-    c: Cursor,
-) -> Moved
-    requires { Good (state heap slots.now scalars.now list.now directory.now cells.now) }
-    ensures { Reads (Calls.next w (cursor_is c)) (state heap slots.now scalars.now list.now directory.now cells.now) (lent_seen (cursor_is result.cursor) result.answer) }
-{
-    let mut cursor = c;
-    let answer = collections_maps::next(
-        heap,
-        slots,
-        scalars,
-        list,
-        directory,
-        cells,
-        w,
-        &mut cursor,
-    );
-    Moved { cursor, answer }
+    slots: [u64; 32],
+    scalars: [u64; 32],
+    list: [u64; 4],
+    directory: [u64; 8],
+    cells: [u64; 64],
 }
 
 // ---- lines
@@ -86,61 +35,48 @@ fn print_number(rt: &impl Print, n: u64) -> io::Result<()> {
 
 fn print_refusal(rt: &impl Print, q: Refusal) -> io::Result<()> {
     rt.write_all(b"refused")?;
-    print_number(rt, heap::number_of(q))?;
+    print_number(rt, u64::from(q))?;
     rt.write_all(b"\n")
 }
 
 // Function, counter, base, closure; or the refusal.
-fn print_frame(
-    rt: &impl Print,
-    heap: Heap,
-    slots: &[u64],
-    scalars: &[u64],
-    list: &[u64],
-    directory: &[u64],
-    cells: &[u64],
-    w: u64,
-    i: u64,
-) -> io::Result<()>
-    requires { Good (state heap slots.now scalars.now list.now directory.now cells.now) }
-{
-    match heap_access::readings::read_frame(heap, slots, scalars, list, directory, cells, w, i) {
-        FrameRead::Refused(q) => print_refusal(rt, q),
-        FrameRead::Is(f) => {
+fn print_frame(rt: &impl Print, frame: Result<Frame, Refusal>) -> io::Result<()> {
+    match frame {
+        Err(q) => print_refusal(rt, q),
+        Ok(f) => {
             rt.write_all(b"frame")?;
             print_number(rt, f.function)?;
             print_number(rt, f.counter)?;
             print_number(rt, f.base)?;
             print_number(rt, f.closure)?;
             rt.write_all(b"\n")
-        }
+        },
     }
 }
 
 // The sequence number yielded last, if any; position, epoch.
 fn print_cursor(rt: &impl Print, c: Cursor) -> io::Result<()> {
-    let last = c.last;
     rt.write_all(b" cursor")?;
-    match last {
+    match c.last {
         None => rt.write_all(b" never")?,
         Some(n) => print_number(rt, n)?,
     }
     print_number(rt, c.pos as u64)?;
-    print_number(rt, c.epoch as u64)?;
+    print_number(rt, u64::from(c.epoch))?;
     rt.write_all(b"\n")
 }
 
-fn print_answer(rt: &impl Print, a: Perhaps) -> io::Result<()> {
-    match a {
-        Perhaps::Is(pos) => {
+fn print_answer(rt: &impl Print, answer: Result<Option<u64>, Refusal>) -> io::Result<()> {
+    match answer {
+        Ok(Some(pos)) => {
             rt.write_all(b"at")?;
             print_number(rt, pos)
-        }
-        Perhaps::Absent => rt.write_all(b"end"),
-        Perhaps::Refused(q) => {
+        },
+        Ok(None) => rt.write_all(b"end"),
+        Err(q) => {
             rt.write_all(b"refused")?;
-            print_number(rt, heap::number_of(q))
-        }
+            print_number(rt, u64::from(q))
+        },
     }
 }
 
@@ -162,195 +98,6 @@ fn two_frames() -> [Frame; 2] {
     [first, second]
 }
 
-// A coroutine of two frames; a third is not there.
-fn coroutine(
-    rt: &impl Print,
-    heap: &mut Heap,
-    slots: &mut [u64],
-    scalars: &mut [u64],
-    list: &[u64],
-    directory: &mut [u64],
-    cells: &mut [u64],
-) -> io::Result<()>
-    requires { Good (state heap.old slots.old scalars.old list.now directory.old cells.old) }
-    ensures { Good (state heap.new slots.new scalars.new list.now directory.new cells.new) }
-{
-    let k = Coroutine {
-        state: 2,
-        sequence: 1,
-        payload: 0,
-        key: 0,
-        result: 0,
-        signal: 0,
-    };
-    let registers = [0u64; 3];
-    let frames = two_frames();
-    let m = made_from(
-        *heap, slots, scalars, list, directory, cells, k, &registers, frames,
-    );
-    *heap = m.heap;
-    let answer = m.answer;
-    match answer {
-        Reading::Refused(q) => print_refusal(rt, q),
-        Reading::Is(w) => {
-            print_frame(rt, *heap, slots, scalars, list, directory, cells, w, 0)?;
-            print_frame(rt, *heap, slots, scalars, list, directory, cells, w, 1)?;
-            print_frame(rt, *heap, slots, scalars, list, directory, cells, w, 2)
-        }
-    }
-}
-
-fn put(
-    rt: &impl Print,
-    heap: &mut Heap,
-    slots: &mut [u64],
-    scalars: &mut [u64],
-    list: &[u64],
-    directory: &mut [u64],
-    cells: &mut [u64],
-    w: u64,
-    hash: u64,
-    key: u64,
-    value: u64,
-) -> io::Result<()>
-    requires { Good (state heap.old slots.old scalars.old list.now directory.old cells.old) }
-    ensures { Good (state heap.new slots.new scalars.new list.now directory.new cells.new) }
-{
-    let s = collections_maps::changes::put(
-        *heap, slots, scalars, list, directory, cells, w, hash, key, value,
-    );
-    *heap = s.heap;
-    let done = s.done;
-    match done {
-        Done::Accepted => Ok(()),
-        Done::Refused(q) => print_refusal(rt, q),
-    }
-}
-
-// The cursor over a map, to the end and once more.
-fn steps(
-    rt: &impl Print,
-    heap: Heap,
-    slots: &[u64],
-    scalars: &[u64],
-    list: &[u64],
-    directory: &[u64],
-    cells: &[u64],
-    w: u64,
-) -> io::Result<()>
-    requires { Good (state heap slots.now scalars.now list.now directory.now cells.now) }
-{
-    let mut c = Cursor {
-        last: None,
-        pos: 0,
-        epoch: 0,
-    };
-    let mut i: usize = 0;
-    while i < 5 {
-        let m = next_from(heap, slots, scalars, list, directory, cells, w, c);
-        let answer = m.answer;
-        c = m.cursor;
-        print_answer(rt, answer)?;
-        print_cursor(rt, c)?;
-        i += 1;
-    }
-    Ok(())
-}
-
-// Three entries: keys 5, 3 and 9.
-fn filled(
-    rt: &impl Print,
-    heap: &mut Heap,
-    slots: &mut [u64],
-    scalars: &mut [u64],
-    list: &[u64],
-    directory: &mut [u64],
-    cells: &mut [u64],
-    w: u64,
-) -> io::Result<()>
-    requires { Good (state heap.old slots.old scalars.old list.now directory.old cells.old) }
-    ensures { Good (state heap.new slots.new scalars.new list.now directory.new cells.new) }
-{
-    put(
-        rt,
-        heap,
-        slots,
-        scalars,
-        list,
-        directory,
-        cells,
-        w,
-        11,
-        0xFFFE000000000005,
-        1,
-    )?;
-    put(
-        rt,
-        heap,
-        slots,
-        scalars,
-        list,
-        directory,
-        cells,
-        w,
-        12,
-        0xFFFE000000000003,
-        2,
-    )?;
-    put(
-        rt,
-        heap,
-        slots,
-        scalars,
-        list,
-        directory,
-        cells,
-        w,
-        13,
-        0xFFFE000000000009,
-        3,
-    )
-}
-
-fn map(
-    rt: &impl Print,
-    heap: Heap,
-    slots: &mut [u64],
-    scalars: &mut [u64],
-    list: &[u64],
-    directory: &mut [u64],
-    cells: &mut [u64],
-) -> io::Result<()>
-    requires { Good (state heap slots.old scalars.old list.now directory.old cells.old) }
-{
-    let m = collections_maps::changes::new_map(heap, slots, scalars, list, directory, cells, 0, 0);
-    let mut h = m.heap;
-    let answer = m.answer;
-    match answer {
-        Reading::Refused(q) => print_refusal(rt, q),
-        Reading::Is(w) => {
-            filled(rt, &mut h, slots, scalars, list, directory, cells, w)?;
-            steps(rt, h, slots, scalars, list, directory, cells, w)
-        }
-    }
-}
-
-fn both(
-    rt: &impl Print,
-    heap: Heap,
-    slots: &mut [u64],
-    scalars: &mut [u64],
-    list: &[u64],
-    directory: &mut [u64],
-    cells: &mut [u64],
-) -> io::Result<()>
-    requires { Good (state heap slots.old scalars.old list.now directory.old cells.old) }
-{
-    let mut h = heap;
-    coroutine(rt, &mut h, slots, scalars, list, directory, cells)?;
-    map(rt, h, slots, scalars, list, directory, cells)
-}
-
 // Document 01's weights for `callsheet`.
 fn weights() -> Weights {
     Weights {
@@ -362,40 +109,174 @@ fn weights() -> Weights {
     }
 }
 
-// A heap of four slots and 64 cells.
-fn main(rt: HostRuntime) -> io::Result<()> {
-    let mut slots = [0u64; 32];
-    let mut scalars = [0u64; 32];
-    let list = [0u64; 4];
-    let mut directory = [0u64; 8];
-    let mut cells = [0u64; 64];
-    let mut marks = [0u8; 4];
-    let mut order = [0u32; 8];
-    let mut table = [0u64; 514];
-    let layout = [0u8; 1];
-    match heap::open(
-        4,
-        4096,
-        weights(),
-        &layout,
-        &mut table,
-        &mut marks,
-        &mut order,
-        &slots,
-        &scalars,
-        &list,
-        &directory,
-        &cells,
-    ) {
-        Opened::Refused(q) => print_refusal(&rt, q),
-        Opened::Ready(h) => both(
-            &rt,
-            h,
-            &mut slots,
-            &mut scalars,
+impl Small {
+    fn open() -> Result<Small, Refusal>
+        ensures { Opened result }
+    {
+        let slots = [0; 32];
+        let scalars = [0; 32];
+        let list = [0; 4];
+        let directory = [0; 8];
+        let cells = [0; 64];
+        let heap = heap::open(
+            4,
+            4096,
+            weights(),
+            &[0],
+            &mut [0; 514],
+            &mut [0; 4],
+            &mut [0; 8],
+            &slots,
+            &scalars,
             &list,
-            &mut directory,
-            &mut cells,
-        ),
+            &directory,
+            &cells,
+        )?;
+        Ok(Small {
+            heap,
+            slots,
+            scalars,
+            list,
+            directory,
+            cells,
+        })
+    }
+
+    // What the readings see.
+    fn view(&self) -> HeapView<'_>
+        requires { Good (held_in self.now) }
+        ensures { held result ≡ held_in self.now }
+    {
+        HeapView {
+            heap: self.heap,
+            slots: &self.slots,
+            scalars: &self.scalars,
+            list: &self.list,
+            directory: &self.directory,
+            cells: &self.cells,
+        }
+    }
+
+    // A coroutine's two frames; a third is not there.
+    fn frames(&self, rt: &impl Print, w: u64) -> io::Result<()>
+        requires { Good (held_in self.now) }
+    {
+        let view = self.view();
+        for i in 0..3 {
+            print_frame(rt, heap_access::readings::read_frame(&view, w, i))?;
+        }
+        Ok(())
+    }
+
+    // A coroutine of two frames.
+    fn coroutine(&mut self, rt: &impl Print) -> io::Result<()>
+        requires { Good (held_in self.old) }
+        ensures { Good (held_in self.new) }
+    {
+        let k = Coroutine {
+            state: 2,
+            sequence: 1,
+            payload: 0,
+            key: 0,
+            result: 0,
+            signal: 0,
+        };
+        let made = heap_allocation::new_coroutine(
+            &mut self.heap,
+            &mut self.slots,
+            &mut self.scalars,
+            &self.list,
+            &mut self.directory,
+            &mut self.cells,
+            k,
+            &[0; 3],
+            &two_frames(),
+        );
+        match made {
+            Err(q) => print_refusal(rt, q),
+            Ok(w) => self.frames(rt, w),
+        }
+    }
+
+    fn put(&mut self, rt: &impl Print, w: u64, hash: u64, key: u64, value: u64) -> io::Result<()>
+        requires { Good (held_in self.old) }
+        ensures { Good (held_in self.new) }
+    {
+        let done = collections_maps::changes::put(
+            &mut self.heap,
+            &mut self.slots,
+            &mut self.scalars,
+            &self.list,
+            &mut self.directory,
+            &mut self.cells,
+            w,
+            hash,
+            key,
+            value,
+        );
+        match done {
+            Err(q) => print_refusal(rt, q),
+            Ok(()) => Ok(()),
+        }
+    }
+
+    // Three entries: keys 5, 3 and 9.
+    fn filled(&mut self, rt: &impl Print, w: u64) -> io::Result<()>
+        requires { Good (held_in self.old) }
+        ensures { Good (held_in self.new) }
+    {
+        self.put(rt, w, 11, 0xFFFE000000000005, 1)?;
+        self.put(rt, w, 12, 0xFFFE000000000003, 2)?;
+        self.put(rt, w, 13, 0xFFFE000000000009, 3)
+    }
+
+    // The cursor over a map, to the end and once more.
+    fn steps(&self, rt: &impl Print, w: u64) -> io::Result<()>
+        requires { Good (held_in self.now) }
+    {
+        let view = self.view();
+        let mut cursor = Cursor {
+            last: None,
+            pos: 0,
+            epoch: 0,
+        };
+        for _ in 0..5 {
+            let answer = collections_maps::next(&view, w, &mut cursor);
+            print_answer(rt, answer)?;
+            print_cursor(rt, cursor)?;
+        }
+        Ok(())
+    }
+
+    fn map(&mut self, rt: &impl Print) -> io::Result<()>
+        requires { Good (held_in self.old) }
+    {
+        let made = collections_maps::changes::new_map(
+            &mut self.heap,
+            &mut self.slots,
+            &mut self.scalars,
+            &self.list,
+            &self.directory,
+            &self.cells,
+            0,
+            0,
+        );
+        match made {
+            Err(q) => print_refusal(rt, q),
+            Ok(w) => {
+                self.filled(rt, w)?;
+                self.steps(rt, w)
+            },
+        }
+    }
+}
+
+fn main(rt: HostRuntime) -> io::Result<()> {
+    match Small::open() {
+        Err(q) => print_refusal(&rt, q),
+        Ok(mut small) => {
+            small.coroutine(&rt)?;
+            small.map(&rt)
+        },
     }
 }

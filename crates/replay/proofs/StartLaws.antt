@@ -1,4 +1,5 @@
 -- A session that was started is ready. Assumes nothing.
+use Rattle.std.proofs.Common.{Result, Ok}
 use Prim.Native.Nat.{ℕ}
 use mathlib.Core.Path.{◌≡◌, refl, sym, ap, ◌∙◌}
 use mathlib.Core.Bool.{Bool, true, false}
@@ -6,11 +7,10 @@ use mathlib.Core.List.{List}
 use mathlib.Core.Option.{some}
 use native.Mathlib.Omega.{arith}
 use Rattle.script.specs.declared.Session.{Session}
-use Rattle.script.specs.declared.Started.{Started}
-use Rattle.script.specs.declared.Started.TheVariants as Start
+use Rattle.script.specs.declared.NotStarted.{NotStarted}
 use Rattle.script.specs.Turns.{Buffers, SessionReady, StartAnswer, Starts, first_session, opens_first, roomy, started_by, started_is}
 
-pub started_ready : {input : List ℕ} {u v : Buffers} {r : Started} {p : Session} → Starts input u r v → r ≡ Start.Ready p → SessionReady input v p
+pub started_ready : {input : List ℕ} {u v : Buffers} {r : Result Session NotStarted} {p : Session} → Starts input u r v → r ≡ Ok p → SessionReady input v p
 unfolding started_is started_by
 started_ready {input} {u} {v} {r} {p} k e = go (roomy input u) (opens_first input) refl refl (ap (λ (a : StartAnswer). a.session) (sym (ap started_is e) ∙ k.answer))
   where

@@ -5,7 +5,7 @@
 ghost use Rattle.std.specs.Prelude.{◌≡◌, ◌≤◌, IfOk, length};
 ghost use Rattle.script.specs.Turns.{SessionReady, lend};
 
-use script::{Session, Started};
+use script::Session;
 use std::io;
 use std::io::Read;
 
@@ -24,7 +24,7 @@ fn line_buffer() -> [u8; 1114279]
 
 fn play(
     rt: &impl Print,
-    first: Session,
+    mut session: Session,
     slots: &mut [u64],
     scalars: &mut [u64],
     list: &mut [u64],
@@ -40,16 +40,14 @@ fn play(
     out: &mut [u8],
     input: &[u8],
 ) -> io::Result<()>
-    requires { SessionReady input.now (lend slots.old scalars.old list.old directory.old cells.old marks.old order.old table.old roots.old words.old bytes.old places.old out.old) first }
+    requires { SessionReady input.now (lend slots.old scalars.old list.old directory.old cells.old marks.old order.old table.old roots.old words.old bytes.old places.old out.old) session }
 {
-    let mut p = first;
-    while p.at < input.len() {
-        p = script::run(
-            p, slots, scalars, list, directory, cells, marks, order, table, roots, words, bytes,
+    while session.at < input.len() {
+        session.run(
+            slots, scalars, list, directory, cells, marks, order, table, roots, words, bytes,
             places, out, input,
         );
-        let end = p.end;
-        rt.write_all(&out[..end])?;
+        rt.write_all(&out[..session.end])?;
     }
     Ok(())
 }
@@ -72,11 +70,10 @@ fn run(rt: &impl Print, input: &[u8]) -> io::Result<()> {
         &slots, &scalars, &list, &directory, &cells, &mut marks, &mut order, &mut table, &roots,
         &words, &bytes, &places, &out, input,
     ) {
-        Started::Short => Ok(()),
-        Started::Refused => Ok(()),
-        Started::Ready(p) => play(
+        Err(_) => Ok(()),
+        Ok(session) => play(
             rt,
-            p,
+            session,
             &mut slots,
             &mut scalars,
             &mut list,

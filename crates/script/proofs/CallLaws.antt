@@ -1,12 +1,13 @@
 -- The calls of a command over the fronts of the lent buffers, and its line. Assumes nothing.
-use Prim.Native.Nat.{ℕ, zero, suc, ◌≤◌, ◌<◌}
+use Rattle.std.proofs.Common.{Option, Some, None}
+use Prim.Native.Nat.{ℕ, ◌≤◌, ◌<◌}
 use mathlib.Core.Path.{◌≡◌, refl, sym, ap, subst, ◌∙◌}
 use mathlib.Core.Logic.{◌≢◌}
+use mathlib.Core.Bool.{Bool, true, false}
 use mathlib.Core.List.{List, [], ◌∷◌, ◌++◌}
 use native.Mathlib.Omega.{arith}
 use lib.ListN.{length, take, drop}
 use lib.Seq.{drop-length, take_at}
-use Rattle.heap_slots.proofs.Cases.{by_cases, same_or_not}
 use Rattle.layout.specs.Layout.{Layout}
 use Rattle.layout.specs.Sections.{layout_of}
 use Rattle.history.proofs.Sizes.{step-size}
@@ -21,45 +22,58 @@ use Rattle.text.specs.Puts.{Puts}
 use Rattle.text.proofs.PutsLaws.{puts-same}
 use Rattle.answers.specs.declared.Shown.{Shown}
 use Rattle.commands.specs.declared.Operands.{Operands}
-use Rattle.commands.specs.declared.Performed.{Performed}
-use Rattle.commands.specs.declared.Performed.TheVariants.{Known, Unknown}
+use Rattle.commands.specs.declared.Form.{Form}
+use Rattle.commands.specs.declared.Memory.TheVariants.{Own, Buffer, Places, Roots}
 use Rattle.commands.specs.declared.Shape.{Shape}
-use Rattle.commands.specs.Rows.{Act, Lists, Memory, add_root, make, make_both, no_act, opens_with}
+use Rattle.commands.specs.Rows.{Act, Lists, add_root, make, make_both, no_act, opens_with}
 use Rattle.commands.specs.Table.{act_of, form_of, memory_of, shape_of}
 use Rattle.commands.specs.Promise.{CommandedBy, calls_in}
 use Rattle.commands.proofs.ActLaws as Acts
 use Rattle.script.specs.declared.Session.{Session}
 use Rattle.script.specs.Lines.{adjusted, buffer_text, lent_text, line_text}
 use Rattle.script.specs.Replay.{Play, acted, called, ended}
-use Rattle.script.specs.Turns.{Buffers, EndLine, Goes, Roomy, SessionReady, form_at, layout_in, lists_in, memory_at, play_of, seated_in}
+use Rattle.script.specs.Turns.{Buffers, EndLine, Goes, Roomy, SessionReady, layout_in, lists_in, play_of, seated_in}
 use Rattle.script.proofs.ActLaws.{silent}
-use Rattle.script.proofs.LendLaws.{form_code_lem, memory_code_lem}
 use Rattle.script.proofs.SessionLaws.{puts-within}
+use Rattle.commands.specs.declared.Memory.{Memory}
 
 -- what is lent are the fronts of the cells, the bytes and the places
-pub front_performed : {l : Layout} {e : Memory} {b : State} {bytes places : List ℕ} {x : Act} {p : Performed} {h : Heap} {s v f d cs bs ps marks order layout table : List ℕ} (room : ℕ) (rest : List ℕ) (m : ℕ) (more : List ℕ) (n : ℕ) (others : List ℕ) → length cs ≡ room → length bs ≡ m → length ps ≡ n →
+pub front_performed : {l : Layout} {e : Memory} {b : State} {bytes places : List ℕ} {x : Act} {p : Option Shown} {h : Heap} {s v f d cs bs ps marks order layout table : List ℕ} (room : ℕ) (rest : List ℕ) (m : ℕ) (more : List ℕ) (n : ℕ) (others : List ℕ) → length cs ≡ room → length bs ≡ m → length ps ≡ n →
     CommandedBy l e b bytes places x p (state h s v f d cs) bs ps → Ready (state h s v f d cs) marks order layout table →
     CommandedBy l e b bytes places x p (state h s v f d (take room (cs ++ rest))) (take m (bs ++ more)) (take n (ps ++ others)) × Ready (state h s v f d (take room (cs ++ rest))) marks order layout table
 front_performed {cs = cs} {bs = bs} {ps = ps} room rest m more n others i j k c r = rw (take_at cs rest room i, take_at bs more m j, take_at ps others n k) (c, r)
 
 -- ---- the line
 
--- the bytes count only where a buffer is lent
-lent_same : (k : ℕ) (s : Shown) (places bytes more : List ℕ) → (k ≡ 1 → bytes ≡ more) → lent_text (memory_at k) s places bytes ≡ lent_text (memory_at k) s places more
-unfolding memory_at lent_text
-lent_same zero s places bytes more f = refl
-lent_same (suc zero) s places bytes more f = ap buffer_text (f refl)
-lent_same (suc (suc zero)) s places bytes more f = refl
-lent_same (suc (suc (suc zero))) s places bytes more f = refl
-lent_same (suc (suc (suc (suc k)))) s places bytes more f = refl
+unfoldable is_buffer : Memory → Bool
+is_buffer Own = false
+is_buffer Buffer = true
+is_buffer Places = false
+is_buffer Roots = false
 
-line_same : (n k : ℕ) (f : ℕ) (s : Shown) (used : ℕ) (places bytes more : List ℕ) → (k ≡ 1 → bytes ≡ more) → line_text n (form_at f) (memory_at k) s used places bytes ≡ line_text n (form_at f) (memory_at k) s used places more
+-- the bytes count only where a buffer is lent
+lent_same : (e : Memory) (s : Shown) (places bytes more : List ℕ) → (e ≡ Buffer → bytes ≡ more) → lent_text e s places bytes ≡ lent_text e s places more
+unfolding lent_text
+lent_same Own s places bytes more f = refl
+lent_same Buffer s places bytes more f = ap buffer_text (f refl)
+lent_same Places s places bytes more f = refl
+lent_same Roots s places bytes more f = refl
+
+line_same : (n : ℕ) (e : Memory) (f : Form) (s : Shown) (used : ℕ) (places bytes more : List ℕ) → (e ≡ Buffer → bytes ≡ more) → line_text n f e s used places bytes ≡ line_text n f e s used places more
 unfolding line_text
-line_same n k f s used places bytes more g = rw (lent_same k s places bytes more g)
+line_same n e f s used places bytes more g = rw (lent_same e s places bytes more g)
+
+other : {e : Memory} → is_buffer e ≡ false → e ≡ Buffer → ⊥
+unfolding is_buffer
+other p q = let z : true ≡ false = rw q at p in let w : ◌≡◌ {A = ℕ} 0 1 = cc in absurd (omega arith)
 
 -- what is shown of the bytes has room
-pub shown-few : (m k b : ℕ) → (k ≡ 1 → m ≡ b) → (k ≢ 1 → m ≡ 0) → (k ≡ 1 → b ≤ 524288) → m ≤ 524288
-shown-few m k b f g h = by_cases (same_or_not k 1) (λ y. omega (arith, f y, h y)) (λ y. omega (arith, g y))
+pub shown-few : (m b : ℕ) (e : Memory) → (e ≡ Buffer → m ≡ b) → ((e ≡ Buffer → ⊥) → m ≡ 0) → (e ≡ Buffer → b ≤ 524288) → m ≤ 524288
+unfolding is_buffer
+shown-few m b Own f g h = omega (arith, g (other refl))
+shown-few m b Buffer f g h = omega (arith, f refl, h refl)
+shown-few m b Places f g h = omega (arith, g (other refl))
+shown-few m b Roots f g h = omega (arith, g (other refl))
 
 -- ---- what comes of a command
 
@@ -134,19 +148,19 @@ play m rs = record { heap = m; roots = rs }
 abbrev pub behind : Session → Heap → ℕ → ℕ → Session
 behind p h next end = record { heap = h; count = p.count; room = p.room; from = p.from; to = p.to; at = next; end = end }
 
-module _ (code : ℕ) (o : Operands) (w e b n next : ℕ) {input : List ℕ} {u v : Buffers} {p : Session} {q : Performed} (h : Heap) (g : SessionReady input u p) (k : Kept u v)
+module _ (code : ℕ) (o : Operands) (w e b n next : ℕ) {input : List ℕ} {u v : Buffers} {p : Session} {q : Option Shown} (h : Heap) (g : SessionReady input u p) (k : Kept u v)
     (c : CommandedBy (layout_of (layout_in input p)) (memory_of code) (seated_in u p) (take b u.bytes) (take n u.places) (act_of code o (lists_in u w e b n)) q (state h v.slots v.scalars v.list v.directory (take p.room v.cells)) (take b v.bytes) (take n v.places))
     (ready : Ready (state h v.slots v.scalars v.list v.directory (take p.room v.cells)) v.marks v.order (layout_in input p) v.table) (l : p.at < next) (i : next ≤ length input) where
-  pub known_goes : {s : Shown} (t : Shape) {m end : ℕ} → q ≡ Known s → t ≡ shape_of code → v.roots ≡ u.roots → (t.memory ≡ 1 → m ≡ b) →
-      Puts (line_text code (form_at t.form) (memory_at t.memory) (adjusted (form_at t.form) o s) h.account.used (take n v.places) (take m v.bytes)) u.out p.end v.out end →
+  pub known_goes : {s : Shown} (t : Shape) {m end : ℕ} → q ≡ Some s → t ≡ shape_of code → v.roots ≡ u.roots → (t.memory ≡ Buffer → m ≡ b) →
+      Puts (line_text code t.form t.memory (adjusted t.form o s) h.account.used (take n v.places) (take m v.bytes)) u.out p.end v.out end →
       Goes input (acted (play_of input u p) code o (lists_in u w e b n) (drop next input) (act_of code o (lists_in u w e b n))) u p v (behind p h next end)
   unfolding called model_of shape_of
   known_goes {s} t {m} {end} eq es er em line =
       let x = act_of code o (lists_in u w e b n) in
       let a = Acts.acted c eq in
-      let mo = ap (λ (y : Shape). memory_at y.memory) es ∙ memory_code_lem (memory_of code) in
-      let fo = ap (λ (y : Shape). form_at y.form) es ∙ form_code_lem (form_of code) in
-      let f = line_same code t.memory t.form (adjusted (form_at t.form) o s) h.account.used (take n v.places) (take m v.bytes) (take b v.bytes) (λ z. ap (λ (y : ℕ). take y v.bytes) (em z)) in
+      let mo = ap (λ (y : Shape). y.memory) es in
+      let fo = ap (λ (y : Shape). y.form) es in
+      let f = line_same code t.memory t.form (adjusted t.form o s) h.account.used (take n v.places) (take m v.bytes) (take b v.bytes) (λ z. ap (λ (y : ℕ). take y v.bytes) (em z)) in
       let size = ap (λ (y : Model). y.table.size) a.next ∙ run-size (model_of (layout_of (layout_in input p)) (seated_in u p)) (calls_in x) in
       let used = ap (λ (y : Model). y.account.used) a.next in
       let plain : Puts (line_text code (form_of code) (memory_of code) (adjusted (form_of code) o s) h.account.used (take n v.places) (take b v.bytes)) u.out p.end v.out end = rw (fo, mo) at (puts-same f line) in
@@ -168,12 +182,13 @@ module _ (code : ℕ) (o : Operands) (w e b n next : ℕ) {input : List ℕ} {u 
         onward = l;
       }
 
-  pub unknown_goes : {r : Session} → code ≢ 0x00 → code ≢ 0x0B → q ≡ Unknown → EndLine p (length input) u.out v.out r → v.roots ≡ u.roots →
+  pub unknown_goes : {r : Session} → code ≢ 0x00 → code ≢ 0x0B → q ≡ None → EndLine (behind p h p.at p.end) (length input) u.out v.out r → v.roots ≡ u.roots →
       Goes input (acted (play_of input u p) code o (lists_in u w e b n) (drop next input) (act_of code o (lists_in u w e b n))) u p v r
   unfolding acted ended model_of
-  unknown_goes {r} h0 hb eq line er =
+  unknown_goes {r} h0 hb eq stops er =
       let a = Acts.not_acted c eq in
       let eh = ap (λ (y : State). y.heap) a.1.0 in
+      let line : EndLine p (length input) u.out v.out r = rw eh at stops in
       let es : state p.heap v.slots v.scalars v.list v.directory (take p.room v.cells) ≡ seated_in u p = rw eh at a.1.0 in
       rw (silent o (lists_in u w e b n) code h0 hb a.0)
       (subst (λ (y : Session). Goes input (ended (play_of input u p)) u p v y) (sym line.same) record {

@@ -14,9 +14,11 @@ use Rattle.text.specs.Puts.{Puts}
 use Rattle.text.specs.Lines.{line_head}
 use Rattle.text.proofs.DigitsLaws.{length_digits, decimal_most}
 use Rattle.text.proofs.PutsLaws.{puts-append, puts_none, puts-same}
-use Rattle.commands.specs.Rows.{Form, Memory, buffer, list_of_places, own, root_list}
 use Rattle.script.specs.declared.Forms.{Forms}
 use Rattle.script.specs.Lines.{buffer_text, extra_text, field_text, forms_of, hex_text, lent_text, line_text, list_text}
+use Rattle.commands.specs.declared.Form.{Form}
+use Rattle.commands.specs.declared.Memory.{Memory}
+use Rattle.commands.specs.declared.Memory.TheVariants.{Own, Buffer, Places, Roots}
 
 pub length-field : (form w : ℕ) → length (field_text form w) ≤ 21
 unfolding field_text
@@ -115,10 +117,10 @@ length-buffer k (m ∷ ms) l = omega (arith, length_hex (m ∷ ms))
 
 pub length-lent : (e : Memory) (s : Shown) (places bytes : List ℕ) (k : ℕ) → 17 * length places ≤ k → 2 + 2 * length bytes ≤ k → length (lent_text e s places bytes) ≤ k
 unfolding lent_text
-length-lent own s places bytes k a b = omega arith
-length-lent buffer s places bytes k a b = length-buffer k bytes b
-length-lent list_of_places s places bytes k a b = omega (arith, length-list places)
-length-lent root_list s places bytes k a b = omega (arith, length-list (take s.x places), most s.x places)
+length-lent Own s places bytes k a b = omega arith
+length-lent Buffer s places bytes k a b = length-buffer k bytes b
+length-lent Places s places bytes k a b = omega (arith, length-list places)
+length-lent Roots s places bytes k a b = omega (arith, length-list (take s.x places), most s.x places)
 
 pub puts-shown : (n : ℕ) (f : Form) (e : Memory) (used : ℕ) (places bytes : List ℕ) {s t : Shown} {g : Forms} {out : List ℕ} {at : ℕ} {out₁ out₂ out₃ out₄ : List ℕ} {r₁ r₂ r₃ r₄ : ℕ} → s ≡ t → Puts (line_head (digits 16 2 n) s.refusal s.word used) out at out₁ r₁ → g ≡ forms_of f s.refusal s.x →
     Puts (extra_text g s) out₁ r₁ out₂ r₂ → Puts (lent_text e s places bytes) out₂ r₂ out₃ r₃ → Puts (10 ∷ []) out₃ r₃ out₄ r₄ → Puts (line_text n f e t used places bytes) out at out₄ r₄

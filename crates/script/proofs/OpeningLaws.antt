@@ -1,4 +1,5 @@
 -- Openings of a script. Assumes nothing.
+use Rattle.std.proofs.Common.{Result, Ok, Err}
 use Prim.Native.Nat.{ℕ, ◌-◌, ◌*◌, ◌≤◌, ◌<◌, min}
 use mathlib.Core.Path.{◌≡◌, refl, sym, ap, ◌∙◌}
 use mathlib.Core.Bool.{Bool, true, false, cond, ◌&&◌}
@@ -17,8 +18,6 @@ use Rattle.model.specs.Terms.{is_some}
 use Rattle.model.specs.declared.Weights.{Weights}
 use Rattle.model.specs.Opening.{Opening, between, open_heap, open_with, opened, sizes_fit}
 use Rattle.heap.specs.declared.Heap.{Heap}
-use Rattle.heap.specs.declared.Opened.{Opened}
-use Rattle.heap.specs.declared.Opened.TheVariants as Open
 use Rattle.heap.specs.declared.Refusal.{Refusal}
 use Rattle.heap.specs.State.{State, model_of, state}
 use Rattle.heap.specs.Opens as Heaps
@@ -27,7 +26,7 @@ use Rattle.text.specs.Puts.{Puts}
 use Rattle.commands.specs.declared.Operands.{Operands}
 use Rattle.commands.specs.Table.{opening_in}
 use Rattle.script.specs.declared.Session.{Session}
-use Rattle.script.specs.declared.Started.TheVariants as Start
+use Rattle.script.specs.declared.NotStarted.TheVariants as Not
 use Rattle.script.specs.Replay.{opened_by, seatable}
 use Rattle.script.specs.Turns.{Buffers, EndLine, Goes, LargeLine, Roomy, SessionReady, Starts, first_opening, first_session, heap_room, large_opening, moved_to, opens_first, play_of, refused_opening, roomy, script_room, started_by, started_is}
 use Rattle.script.proofs.SessionLaws.{ended_goes, kept_goes, puts-within, with}
@@ -84,8 +83,8 @@ module _ (o : Operands) (layout : List ℕ) where
 
 -- ---- an opening over buffers with room
 
-module _ {o : Opening} {t : State} {x y : Beside} {r : Opened} (k : Opens o t x r y) where
-  pub opened-yes : (h : Heap) → r ≡ Open.Ready h → (accepts o t x ≡ true) × (h ≡ t.heap)
+module _ {o : Opening} {t : State} {x y : Beside} {r : Result Heap Refusal} (k : Opens o t x r y) where
+  pub opened-yes : (h : Heap) → r ≡ Ok h → (accepts o t x ≡ true) × (h ≡ t.heap)
   unfolding Heaps.opened_by
   opened-yes h e = go (accepts o t x) refl k.answer
     where
@@ -93,7 +92,7 @@ module _ {o : Opening} {t : State} {x y : Beside} {r : Opened} (k : Opens o t x 
       go true z a = (z, cc)
       go false z a = let w : ◌≡◌ {A = ℕ} 0 1 = cc in absurd (omega arith)
 
-  pub opened-no : (q : Refusal) → r ≡ Open.Refused q → accepts o t x ≡ false
+  pub opened-no : (q : Refusal) → r ≡ Err q → accepts o t x ≡ false
   unfolding Heaps.opened_by
   opened-no q e = go (accepts o t x) refl k.answer
     where
@@ -116,16 +115,16 @@ module _ (o : Opening) (h : Heap) {input : List ℕ} {u : Buffers} (g : Roomy in
       ) (and-true (is_some (open_heap o)))
 
 -- what the opening of one slot tells, over lists with room
-module _ {o : Operands} {layout : List ℕ} {h : Heap} {s x f d c table marks order : List ℕ} {r : Opened} {y : Beside} {w : Weights} (ew : w ≡ (opening_in o []).weights) (k : Opens (opening_of 1 1 o.c w layout) (state h s x f d c) (beside table marks order) r y) (low : 1 ≤ o.a) (high : o.a ≤ 65536) (few : o.b ≤ 1048576)
+module _ {o : Operands} {layout : List ℕ} {h : Heap} {s x f d c table marks order : List ℕ} {r : Result Heap Refusal} {y : Beside} {w : Weights} (ew : w ≡ (opening_in o []).weights) (k : Opens (opening_of 1 1 o.c w layout) (state h s x f d c) (beside table marks order) r y) (low : 1 ≤ o.a) (high : o.a ≤ 65536) (few : o.b ≤ 1048576)
     (ls : 8 ≤ length s) (lx : 8 ≤ length x) (lf : 1 ≤ length f) (ld : 2 ≤ length d) (lt : 514 ≤ length table) (lm : 1 ≤ length marks) (lo : 2 ≤ length order) where
   told : accepts (opening_of 1 1 o.c w layout) (state h s x f d c) (beside table marks order) ≡ is_some (open_heap (opening_in o layout))
   unfolding accepts room_for
   told = rw (ew, leb_yes 514 (length table) lt, leb_yes 8 (length s) ls, leb_yes 8 (length x) lx, leb_yes 1 (length f) lf, leb_yes 2 (length d) ld, leb_yes 1 (length marks) lm, leb_yes 2 (length order) lo) (and-true (is_some (open_heap (opening_of 1 1 o.c (opening_in o []).weights layout))) ∙ tried o layout low high few)
 
-  pub told-yes : {h : Heap} → r ≡ Open.Ready h → true ≡ is_some (open_heap (opening_in o layout))
+  pub told-yes : {h : Heap} → r ≡ Ok h → true ≡ is_some (open_heap (opening_in o layout))
   told-yes {h} e = sym (opened-yes k h e).0 ∙ told
 
-  pub told-no : {q : Refusal} → r ≡ Open.Refused q → false ≡ is_some (open_heap (opening_in o layout))
+  pub told-no : {q : Refusal} → r ≡ Err q → false ≡ is_some (open_heap (opening_in o layout))
   told-no {q} e = sym (opened-no k q e) ∙ told
 
 -- ---- no room for it
@@ -181,7 +180,7 @@ opening input o from to = opening_in o (take (to - from) (drop from input))
 abbrev new_state : Buffers → Operands → State
 new_state u o = state (new_heap o.a o.c (opening_in o []).weights) u.slots u.scalars u.list u.directory (take o.b u.cells)
 
-module _ {input : List ℕ} {u : Buffers} {p : Session} {table marks order : List ℕ} (o : Operands) (from to next e : ℕ) {r : Opened} (g : SessionReady input u p) {b : Bool} (eb : b ≡ seatable (opening_in o [])) (tb : b ≡ true)
+module _ {input : List ℕ} {u : Buffers} {p : Session} {table marks order : List ℕ} (o : Operands) (from to next e : ℕ) {r : Result Heap Refusal} (g : SessionReady input u p) {b : Bool} (eb : b ≡ seatable (opening_in o [])) (tb : b ≡ true)
     (k : Opens (opening input o from to) (new_state u o) (beside u.table u.marks u.order) r (beside table marks order)) (l : p.at < next) (i : next ≤ length input) where
   seats : seatable (opening_in o []) ≡ true
   seats = sym eb ∙ tb
@@ -189,7 +188,7 @@ module _ {input : List ℕ} {u : Buffers} {p : Session} {table marks order : Lis
   accepted : accepts (opening input o from to) (new_state u o) (beside u.table u.marks u.order) ≡ is_some (open_heap (opening input o from to))
   accepted = fits (opening input o from to) (new_heap o.a o.c (opening_in o []).weights) g.roomy (take o.b u.cells) (seat-slots (opening_in o []) seats).0
 
-  pub turned-refused : {out : List ℕ} {q : Refusal} {used : ℕ} {s : Session} → r ≡ Open.Refused q → used ≡ p.heap.account.used → Puts (printed (digits 16 2 0) 10 0 used) u.out p.end out e → s ≡ moved_to p p.count next e →
+  pub turned-refused : {out : List ℕ} {q : Refusal} {used : ℕ} {s : Session} → r ≡ Err q → used ≡ p.heap.account.used → Puts (printed (digits 16 2 0) 10 0 used) u.out p.end out e → s ≡ moved_to p p.count next e →
       Goes input (opened_by (play_of input u p) (opening input o from to) (drop next input) (open_heap (opening input o from to))) u p (opens_on u table marks order out) s
   unfolding opened_by model_of
   turned-refused {q = q} z y t m =
@@ -197,7 +196,7 @@ module _ {input : List ℕ} {u : Buffers} {p : Session} {table marks order : Lis
       let w = k.refused n in
       rw (none_is (open_heap (opening input o from to)) (sym accepted ∙ n), ap (λ (b : Beside). b.table) w, ap (λ (b : Beside). b.marks) w, ap (λ (b : Beside). b.order) w) (kept_goes _ next e g refl refl l i refl refl refl m (rw y at t))
 
-  pub turned-opened : {out : List ℕ} (h : Heap) → r ≡ Open.Ready h → from ≤ to → to ≤ length input → length table ≡ length u.table → length marks ≡ length u.marks → length order ≡ length u.order → Puts (printed (digits 16 2 0) 0 0 h.account.used) u.out p.end out e →
+  pub turned-opened : {out : List ℕ} (h : Heap) → r ≡ Ok h → from ≤ to → to ≤ length input → length table ≡ length u.table → length marks ≡ length u.marks → length order ≡ length u.order → Puts (printed (digits 16 2 0) 0 0 h.account.used) u.out p.end out e →
       Goes input (opened_by (play_of input u p) (opening input o from to) (drop next input) (open_heap (opening input o from to))) u p (opens_on u table marks order out) (record { heap = h; count = 0; room = o.b; from = from; to = to; at = next; end = e })
   unfolding opened_by model_of seatable
   turned-opened h z low within lt lm lo t =
@@ -304,19 +303,19 @@ true_roomy input u ea ta eb tb =
 
 -- a lent buffer is too short
 module _ {input : List ℕ} (u : Buffers) where
-  short : roomy input u ≡ false → Starts input u Start.Short u
+  short : roomy input u ≡ false → Starts input u (Err Not.Short) u
   unfolding started_is started_by
   short e = record { answer = rw e; accepted = λ z. absurd_true (sym e ∙ z); refused = λ z. refl }
     where
       absurd_true : {A : Type 0} → false ≡ true → A
       absurd_true z = let w : ◌≡◌ {A = ℕ} 0 1 = cc in absurd (omega arith)
 
-  pub short-heap : {a : Bool} → a ≡ heap_room (length u.slots) (length u.scalars) (length u.list) (length u.directory) (length u.cells) (length u.marks) (length u.order) (length u.table) → a ≡ false → Starts input u Start.Short u
+  pub short-heap : {a : Bool} → a ≡ heap_room (length u.slots) (length u.scalars) (length u.list) (length u.directory) (length u.cells) (length u.marks) (length u.order) (length u.table) → a ≡ false → Starts input u (Err Not.Short) u
   unfolding roomy
   short-heap e z = short (let y = sym e ∙ z in rw y)
 
   pub short_script : {a b : Bool} → a ≡ heap_room (length u.slots) (length u.scalars) (length u.list) (length u.directory) (length u.cells) (length u.marks) (length u.order) (length u.table) → a ≡ true →
-      b ≡ script_room (length input) (length u.roots) (length u.words) (length u.bytes) (length u.places) (length u.out) → b ≡ false → Starts input u Start.Short u
+      b ≡ script_room (length input) (length u.roots) (length u.words) (length u.bytes) (length u.places) (length u.out) → b ≡ false → Starts input u (Err Not.Short) u
   unfolding roomy
   short_script e z f y = short (let i = sym e ∙ z in let j = sym f ∙ y in rw (i, j))
 
@@ -333,7 +332,7 @@ first_byte [] e = let w : true ≡ false = sym e ∙ no-layout in let z : ◌≡
 first_byte (b ∷ bs) e = omega arith
 
 -- the buffers with another table, marks and order
-module _ {input : List ℕ} {u : Buffers} {table marks order : List ℕ} {r : Opened} (g : Roomy input u) {n : ℕ} (en : n ≡ min (length input) 1)
+module _ {input : List ℕ} {u : Buffers} {table marks order : List ℕ} {r : Result Heap Refusal} (g : Roomy input u) {n : ℕ} (en : n ≡ min (length input) 1)
     (k : Opens (opening_of 256 (length (take 2048 u.cells)) 1048576 sheet_opening.weights (take n input)) (first_state u) (beside u.table u.marks u.order) r (beside table marks order)) where
   first-opens : Opens (first_opening input) (first_state u) (beside u.table u.marks u.order) r (beside table marks order)
   first-opens = rw (length-take-le 2048 u.cells (omega (arith, g.cells)), first-front input n en) at k
@@ -374,7 +373,7 @@ module _ {input : List ℕ} {u : Buffers} {table marks order : List ℕ} {r : Op
         a.model,
       )
 
-  pub starts-refused : {q : Refusal} → r ≡ Open.Refused q → length table ≡ length u.table → length marks ≡ length u.marks → length order ≡ length u.order → Starts input u Start.Refused (opens_on u table marks order u.out)
+  pub starts-refused : {q : Refusal} → r ≡ Err q → length table ≡ length u.table → length marks ≡ length u.marks → length order ≡ length u.order → Starts input u (Err Not.Refused) (opens_on u table marks order u.out)
   unfolding started_is started_by
   starts-refused {q} e lt lm lo =
       let n = opened-no first-opens q e in
@@ -385,8 +384,8 @@ module _ {input : List ℕ} {u : Buffers} {table marks order : List ℕ} {r : Op
         refused = λ z. rw (ap (λ (b : Beside). b.table) w, ap (λ (b : Beside). b.marks) w, ap (λ (b : Beside). b.order) w);
       }
 
-  pub starts_open : (h : Heap) → r ≡ Open.Ready h → length table ≡ length u.table → length marks ≡ length u.marks → length order ≡ length u.order →
-      Starts input u (Start.Ready record { heap = h; count = 0; room = 2048; from = 0; to = 1; at = 1; end = 0 }) (opens_on u table marks order u.out)
+  pub starts_open : (h : Heap) → r ≡ Ok h → length table ≡ length u.table → length marks ≡ length u.marks → length order ≡ length u.order →
+      Starts input u (Ok record { heap = h; count = 0; room = 2048; from = 0; to = 1; at = 1; end = 0 }) (opens_on u table marks order u.out)
   unfolding started_is started_by
   starts_open h e lt lm lo =
       let y = opened-yes first-opens h e in

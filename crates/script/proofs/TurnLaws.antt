@@ -11,6 +11,8 @@ use lib.Seq.{length-take-le}
 use Rattle.model.specs.Opening.{open_heap}
 use Rattle.heap.specs.State.{model_of}
 use Rattle.commands.specs.declared.Operands.{Operands}
+use Rattle.commands.specs.declared.Memory.{Memory}
+use Rattle.commands.specs.declared.Memory.TheVariants.{Buffer, Places}
 use Rattle.commands.specs.declared.Shape.{Shape}
 use Rattle.commands.specs.Rows.{choose, joined}
 use Rattle.commands.specs.Table.{act_in, act_of, groups, memory_of, opening_in, session_rows, shape_of, table}
@@ -20,8 +22,8 @@ use Rattle.script.specs.declared.Session.{Session}
 use Rattle.script.specs.Parse.{Called, called_by}
 use Rattle.script.specs.Reads.{Reads, called_is}
 use Rattle.script.specs.Replay.{Play, Turned, acted, bytes_for, ended, frames_for, lendable, lists_for, numbered, opened_by, places_for, rooted, turn_by, turn_of, words_for}
-use Rattle.script.specs.Turns.{Buffers, EndLine, Fronts, Goes, LendsWords, Placed, SessionReady, Turns, memory_at, own_bytes, play_of, turn_at}
-use Rattle.script.proofs.LendLaws.{called_as, called_is_lem, called_not, memory_code_lem}
+use Rattle.script.specs.Turns.{Buffers, EndLine, Fronts, Goes, LendsWords, Placed, SessionReady, Turns, own_bytes, play_of, turn_at}
+use Rattle.script.proofs.LendLaws.{called_as, called_is_lem, called_not}
 use Rattle.script.proofs.SessionLaws.{ended_goes, ready_with, with}
 
 pub part-short : (n k : ℕ) (l : List ℕ) → length (take n (drop k l)) ≤ length l
@@ -33,17 +35,17 @@ goes_from e x = record { ready = x.ready; text = rw (← e) x.text; next = x.nex
 
 -- ---- memory lent to a call
 
-pub lendable-bytes : (m : ℕ) (o : Operands) {b : Bool} → b ≡ lendable (memory_at m) o → b ≡ true → m ≡ 1 → o.b ≤ 524288
-unfolding memory_at lendable
+pub lendable-bytes : (m : Memory) (o : Operands) {b : Bool} → b ≡ lendable m o → b ≡ true → m ≡ Buffer → o.b ≤ 524288
+unfolding lendable
 lendable-bytes m o e t z = leb-true o.b 524288 (rw z at (sym e ∙ t))
 
-pub lendable-places : (m : ℕ) (o : Operands) {b : Bool} → b ≡ lendable (memory_at m) o → b ≡ true → m ≡ 2 → o.a ≤ 65536
-unfolding memory_at lendable
+pub lendable-places : (m : Memory) (o : Operands) {b : Bool} → b ≡ lendable m o → b ≡ true → m ≡ Places → o.a ≤ 65536
+unfolding lendable
 lendable-places m o e t z = leb-true o.a 65536 (rw z at (sym e ∙ t))
 
 -- a lent buffer has so many bytes as the command says
-pub buffer-few : (m : ℕ) (c : Called) {old new : List ℕ} {n : ℕ} → c.operands.b ≤ 524288 → m ≡ 1 → Fronts (bytes_for (memory_at m) c) old n new → n ≤ 524288
-unfolding memory_at bytes_for
+pub buffer-few : (m : Memory) (c : Called) {old new : List ℕ} {n : ℕ} → c.operands.b ≤ 524288 → m ≡ Buffer → Fronts (bytes_for m c) old n new → n ≤ 524288
+unfolding bytes_for
 buffer-few m c {old} {new} {n} l z f =
     let e : take n new ≡ replicate c.operands.b 0xEE = rw z at f.front in
     omega (arith, l, ap length e, length-take-le n new f.inside, length-replicate {A = ℕ} c.operands.b 0xEE)
@@ -52,42 +54,42 @@ buffer-few m c {old} {new} {n} l z f =
 pub ready-lent : {input : List ℕ} {u : Buffers} {p : Session} {words bytes places : List ℕ} → SessionReady input u p → length words ≡ length u.words → length bytes ≡ length u.bytes → length places ≡ length u.places → SessionReady input (with u u.roots words bytes places u.out) p
 ready-lent {u = u} {p = p} g a b c = ready_with record { rooted = refl; worded = a; sized = b; placed = c; printed = refl } p.count p.at p.end g g.few g.inside g.end
 
-memory-is : (code : ℕ) (t : Shape) → t ≡ shape_of code → memory_at t.memory ≡ memory_of code
+memory-is : (code : ℕ) (t : Shape) → t ≡ shape_of code → t.memory ≡ memory_of code
 unfolding shape_of
-memory-is code t es = ap (λ (y : Shape). memory_at y.memory) es ∙ memory_code_lem (memory_of code)
+memory-is code t es = ap (λ (y : Shape). y.memory) es
 
-module _ (code : ℕ) (t : Shape) (es : t ≡ shape_of code) (input : List ℕ) (p : Play) (ws : List ℕ) (k : Command) (known : k.known ≡ true) {b : Bool} (eb : b ≡ lendable (memory_at t.memory) k.operands) where
+module _ (code : ℕ) (t : Shape) (es : t ≡ shape_of code) (input : List ℕ) (p : Play) (ws : List ℕ) (k : Command) (known : k.known ≡ true) {b : Bool} (eb : b ≡ lendable t.memory k.operands) where
   pub lent-ends : b ≡ false → turn_by p code (called_is input ws k) ≡ ended p
   unfolding turn_by
   lent-ends f =
       let l : lendable (memory_of code) k.operands ≡ false = rw (memory-is code t es) at (sym eb ∙ f) in
       rw (called_is_lem input ws k known, l)
 
-  pub lent_acts : {words bytes places old older oldest : List ℕ} (w e m n : ℕ) → b ≡ true → LendsWords (words_for (memory_at t.memory) p (called_as input ws k)) (frames_for (memory_at t.memory) (called_as input ws k)) old w e words →
-      Fronts (bytes_for (memory_at t.memory) (called_as input ws k)) older m bytes → Fronts (numbered (places_for (memory_at t.memory) p k.operands)) oldest n places →
+  pub lent_acts : {words bytes places old older oldest : List ℕ} (w e m n : ℕ) → b ≡ true → LendsWords (words_for t.memory p (called_as input ws k)) (frames_for t.memory (called_as input ws k)) old w e words →
+      Fronts (bytes_for t.memory (called_as input ws k)) older m bytes → Fronts (numbered (places_for t.memory p k.operands)) oldest n places →
       turn_by p code (called_is input ws k) ≡ acted p code k.operands (lists (take w words) (take (e - w) (drop w words)) (take m bytes) (take n places)) (drop k.next input) (act_of code k.operands (lists (take w words) (take (e - w) (drop w words)) (take m bytes) (take n places)))
   unfolding turn_by lists_for
   lent_acts w e m n f x y z =
       let l : lendable (memory_of code) k.operands ≡ true = rw (memory-is code t es) at (sym eb ∙ f) in
       rw (called_is_lem input ws k known, l, x.words, x.frames, y.front, z.front, memory-is code t es)
 
-module _ (code : ℕ) (t : Shape) (es : t ≡ shape_of code) {input : List ℕ} {u : Buffers} {p : Session} (k : Command) (known : k.known ≡ true) {b : Bool} (eb : b ≡ lendable (memory_at t.memory) k.operands) (g : SessionReady input u p) where
+module _ (code : ℕ) (t : Shape) (es : t ≡ shape_of code) {input : List ℕ} {u : Buffers} {p : Session} (k : Command) (known : k.known ≡ true) {b : Bool} (eb : b ≡ lendable t.memory k.operands) (g : SessionReady input u p) where
   pub lent-ended : {out : List ℕ} {r : Session} → b ≡ false → p.at < length input → EndLine p (length input) u.out out r → Goes input (turn_by (play_of input u p) code (called_is input u.words k)) u p (with u u.roots u.words u.bytes u.places out) r
   lent-ended f l e = rw (lent-ends code t es input (play_of input u p) u.words k known eb f) (ended_goes g l refl refl refl e)
 
   module _ {words bytes : List ℕ} (w e m n : ℕ)
-      (fw : (q : Play) (i : List ℕ) (c : Called) → called_is i u.words k ≡ some c → q.roots ≡ take p.count u.roots → LendsWords (words_for (memory_at t.memory) q c) (frames_for (memory_at t.memory) c) u.words w e words)
-      (fb : (c : Called) → c.operands ≡ k.operands → c.bytes ≡ own_bytes input k → Fronts (bytes_for (memory_at t.memory) c) u.bytes m bytes) where
-    words-lent : LendsWords (words_for (memory_at t.memory) (play_of input u p) (called_as input u.words k)) (frames_for (memory_at t.memory) (called_as input u.words k)) u.words w e words
+      (fw : (q : Play) (i : List ℕ) (c : Called) → called_is i u.words k ≡ some c → q.roots ≡ take p.count u.roots → LendsWords (words_for t.memory q c) (frames_for t.memory c) u.words w e words)
+      (fb : (c : Called) → c.operands ≡ k.operands → c.bytes ≡ own_bytes input k → Fronts (bytes_for t.memory c) u.bytes m bytes) where
+    words-lent : LendsWords (words_for t.memory (play_of input u p) (called_as input u.words k)) (frames_for t.memory (called_as input u.words k)) u.words w e words
     words-lent = fw (play_of input u p) input (called_as input u.words k) (called_is_lem input u.words k known) refl
 
-    bytes-lent : Fronts (bytes_for (memory_at t.memory) (called_as input u.words k)) u.bytes m bytes
+    bytes-lent : Fronts (bytes_for t.memory (called_as input u.words k)) u.bytes m bytes
     bytes-lent = fb (called_as input u.words k) refl refl
 
-    pub lent-few : b ≡ true → n ≤ 65536 → (w ≤ e) × (e ≤ length words) × (m ≤ length bytes) × (n ≤ 65536) × (t.memory ≡ 1 → m ≤ 524288)
+    pub lent-few : b ≡ true → n ≤ 65536 → (w ≤ e) × (e ≤ length words) × (m ≤ length bytes) × (n ≤ 65536) × (t.memory ≡ Buffer → m ≤ 524288)
     lent-few f l = (words-lent.order, words-lent.inside, bytes-lent.inside, l, λ z. buffer-few t.memory (called_as input u.words k) (lendable-bytes t.memory k.operands eb f z) z bytes-lent)
 
-    pub lent_goes : {places : List ℕ} {x v : Buffers} {r : Session} → b ≡ true → ((q : Play) → q.heap.table.size ≡ p.heap.size → Fronts (numbered (places_for (memory_at t.memory) q k.operands)) u.places n places) → x.out ≡ u.out →
+    pub lent_goes : {places : List ℕ} {x v : Buffers} {r : Session} → b ≡ true → ((q : Play) → q.heap.table.size ≡ p.heap.size → Fronts (numbered (places_for t.memory q k.operands)) u.places n places) → x.out ≡ u.out →
         Goes input (acted (play_of input u p) code k.operands (lists (take w words) (take (e - w) (drop w words)) (take m bytes) (take n places)) (drop k.next input) (act_of code k.operands (lists (take w words) (take (e - w) (drop w words)) (take m bytes) (take n places)))) x p v r →
         Goes input (turn_by (play_of input u p) code (called_is input u.words k)) u p v r
     unfolding model_of

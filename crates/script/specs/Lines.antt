@@ -4,29 +4,32 @@ use Rattle.model.specs.Callsheet.{decimal, digits}
 use Rattle.text.specs.Lines.{line_head}
 use Rattle.answers.specs.declared.Shown.{Shown}
 use Rattle.commands.specs.declared.Operands.{Operands}
-use Rattle.commands.specs.Rows.{Form, Memory, buffer, entry_fields, frame_fields, iterator_cursor, lent_cursor, list_of_places, own, root_list, second, word_alone}
 use Rattle.script.specs.declared.Forms.{Forms}
+use Rattle.commands.specs.declared.Form.{Form}
+use Rattle.commands.specs.declared.Form.TheVariants.{WordAlone, Second, EntryFields, FrameFields, IteratorCursor, LentCursor}
+use Rattle.commands.specs.declared.Memory.{Memory}
+use Rattle.commands.specs.declared.Memory.TheVariants.{Own, Buffer, Places, Roots}
 
 -- how x, y, z, u and v are shown: 0 not at all, 1 in decimal, 2 in hexadecimal
 abbrev pub forms : ℕ → ℕ → ℕ → ℕ → ℕ → Forms
 forms x y z u v = record { x = x; y = y; z = z; u = u; v = v }
 
 unfoldable pub accepted_forms : Form → ℕ → Forms
-accepted_forms word_alone x = forms 0 0 0 0 0
-accepted_forms second x = forms 1 0 0 0 0
-accepted_forms entry_fields x = forms 2 2 1 1 0
-accepted_forms frame_fields x = forms 1 1 2 0 0
-accepted_forms iterator_cursor x = cond (eqb x 7) (forms 1 1 1 1 0) (forms 1 0 0 0 0)
-accepted_forms lent_cursor x = forms 1 1 1 1 1
+accepted_forms WordAlone x = forms 0 0 0 0 0
+accepted_forms Second x = forms 1 0 0 0 0
+accepted_forms EntryFields x = forms 2 2 1 1 0
+accepted_forms FrameFields x = forms 1 1 2 0 0
+accepted_forms IteratorCursor x = cond (eqb x 7) (forms 1 1 1 1 0) (forms 1 0 0 0 0)
+accepted_forms LentCursor x = forms 1 1 1 1 1
 
 -- a refused call shows lent memory alone
 unfoldable pub refused_forms : Form → Forms
-refused_forms word_alone = forms 0 0 0 0 0
-refused_forms second = forms 0 0 0 0 0
-refused_forms entry_fields = forms 0 0 0 0 0
-refused_forms frame_fields = forms 0 0 0 0 0
-refused_forms iterator_cursor = forms 0 0 0 0 0
-refused_forms lent_cursor = forms 1 1 1 1 1
+refused_forms WordAlone = forms 0 0 0 0 0
+refused_forms Second = forms 0 0 0 0 0
+refused_forms EntryFields = forms 0 0 0 0 0
+refused_forms FrameFields = forms 0 0 0 0 0
+refused_forms IteratorCursor = forms 0 0 0 0 0
+refused_forms LentCursor = forms 1 1 1 1 1
 
 unfoldable pub forms_of : Form → ℕ → ℕ → Forms
 forms_of f refusal x = cond (eqb refusal 0) (accepted_forms f x) (refused_forms f)
@@ -36,12 +39,12 @@ unfoldable pub with_last : ℕ → Shown → Shown
 with_last last s = record { refusal = s.refusal; word = s.word; x = s.x; y = s.y; z = cond (eqb s.y 0) last s.z; u = s.u; v = s.v }
 
 unfoldable pub adjusted : Form → Operands → Shown → Shown
-adjusted word_alone o s = s
-adjusted second o s = s
-adjusted entry_fields o s = s
-adjusted frame_fields o s = s
-adjusted iterator_cursor o s = s
-adjusted lent_cursor o s = with_last o.c s
+adjusted WordAlone o s = s
+adjusted Second o s = s
+adjusted EntryFields o s = s
+adjusted FrameFields o s = s
+adjusted IteratorCursor o s = s
+adjusted LentCursor o s = with_last o.c s
 
 unfoldable pub field_text : ℕ → ℕ → List ℕ
 field_text form w = cond (eqb form 0) [] (cond (eqb form 1) (32 ∷ decimal w) (32 ∷ digits 16 16 w))
@@ -65,10 +68,10 @@ buffer_text (n ∷ ns) = 32 ∷ hex_text (n ∷ ns)
 
 -- the lent buffer, the whole list, or what is listed of the roots' collection
 unfoldable pub lent_text : Memory → Shown → List ℕ → List ℕ → List ℕ
-lent_text own s places bytes = []
-lent_text buffer s places bytes = buffer_text bytes
-lent_text list_of_places s places bytes = list_text places
-lent_text root_list s places bytes = list_text (take s.x places)
+lent_text Own s places bytes = []
+lent_text Buffer s places bytes = buffer_text bytes
+lent_text Places s places bytes = list_text places
+lent_text Roots s places bytes = list_text (take s.x places)
 
 -- the line of the command n: used after it, places and bytes the memory lent, after the call
 unfoldable pub line_text : ℕ → Form → Memory → Shown → ℕ → List ℕ → List ℕ → List ℕ

@@ -8,11 +8,13 @@ use Rattle.model.specs.Callsheet.{digits, printed, sheet_heap, sheet_opening}
 use Rattle.model.specs.Demand3.{CodeDemand3, history_from, run, seen_all}
 use Rattle.model.specs.ShutOut.{ShutOut}
 use Rattle.commands.specs.declared.Operands.{Operands}
-use Rattle.commands.specs.Rows.{Act, Lists, Memory, add_root, buffer, list_of_places, make, make_both, no_act, opens_with, own, root_list}
+use Rattle.commands.specs.Rows.{Act, Lists, add_root, make, make_both, no_act, opens_with}
 use Rattle.commands.specs.Table.{act_of, form_of, memory_of}
 use Rattle.commands.specs.Promise.{bytes_after, calls_in, lent_by, places_after, shown_by}
 use Rattle.script.specs.Lines.{adjusted, line_text}
 use Rattle.script.specs.Parse.{Called, called_by}
+use Rattle.commands.specs.declared.Memory.{Memory}
+use Rattle.commands.specs.declared.Memory.TheVariants.{Own, Buffer, Places, Roots}
 
 -- between commands: the heap, and the roots given so far
 pub record Play : Type 0 where
@@ -25,29 +27,29 @@ used p = p.heap.account.used
 -- ---- the lists that a command is given
 
 unfoldable pub words_for : Memory → Play → Called → List ℕ
-words_for own p k = k.words
-words_for buffer p k = k.words
-words_for list_of_places p k = k.words
-words_for root_list p k = p.roots
+words_for Own p k = k.words
+words_for Buffer p k = k.words
+words_for Places p k = k.words
+words_for Roots p k = p.roots
 
 unfoldable pub frames_for : Memory → Called → List ℕ
-frames_for own k = k.frames
-frames_for buffer k = k.frames
-frames_for list_of_places k = k.frames
-frames_for root_list k = []
+frames_for Own k = k.frames
+frames_for Buffer k = k.frames
+frames_for Places k = k.frames
+frames_for Roots k = []
 
 -- a lent buffer holds EE
 unfoldable pub bytes_for : Memory → Called → List ℕ
-bytes_for own k = k.bytes
-bytes_for buffer k = replicate k.operands.b 0xEE
-bytes_for list_of_places k = k.bytes
-bytes_for root_list k = k.bytes
+bytes_for Own k = k.bytes
+bytes_for Buffer k = replicate k.operands.b 0xEE
+bytes_for Places k = k.bytes
+bytes_for Roots k = k.bytes
 
 unfoldable pub places_for : Memory → Play → Operands → ℕ
-places_for own p o = 0
-places_for buffer p o = 0
-places_for list_of_places p o = o.a
-places_for root_list p o = p.heap.table.size
+places_for Own p o = 0
+places_for Buffer p o = 0
+places_for Places p o = o.a
+places_for Roots p o = p.heap.table.size
 
 -- place i of a lent list holds AAAAAAAAAAAA0000 + i
 unfoldable pub numbered : ℕ → List ℕ
@@ -59,10 +61,10 @@ lists_for e p k = record { words = words_for e p k; frames = frames_for e k; byt
 
 -- what the program has room for: buffers of 524,288 bytes, lists of 65,536 places, heaps of 1,024 slots and 65,536 cells
 unfoldable pub lendable : Memory → Operands → Bool
-lendable own o = true
-lendable buffer o = leb o.b 524288
-lendable list_of_places o = leb o.a 65536
-lendable root_list o = true
+lendable Own o = true
+lendable Buffer o = leb o.b 524288
+lendable Places o = leb o.a 65536
+lendable Roots o = true
 
 unfoldable pub seatable : Opening → Bool
 seatable o = leb o.slots 1024 && leb o.cells 65536

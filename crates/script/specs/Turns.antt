@@ -1,5 +1,5 @@
 -- What the functions promise of one command and of many: from a session and the lent buffers before to those after.
-use Rattle.std.specs.Prelude.{ℕ, ◌+◌, ◌-◌, ◌*◌, ◌≤◌, ◌<◌, ◌≡◌, Bool, true, false, cond, ◌&&◌, List, [], ◌∷◌, ◌++◌, leb, length, get_or, take, drop}
+use Rattle.std.specs.Prelude.{ℕ, ◌+◌, ◌-◌, ◌*◌, ◌≤◌, ◌<◌, ◌≡◌, Bool, true, false, cond, ◌&&◌, List, [], ◌∷◌, ◌++◌, leb, length, get_or, take, drop, Result, Ok, Err}
 use Rattle.std.proofs.Math.Option.{Option, none, some}
 use Rattle.layout.specs.Sections.{layout_of}
 use Rattle.model.specs.Callsheet.{digits, printed, sheet_opening}
@@ -10,21 +10,13 @@ use Rattle.heap.specs.State.{State, model_of, state}
 use Rattle.heap.specs.Good.{Ready}
 use Rattle.heap.specs.Opens.{new_heap, opening_of}
 use Rattle.text.specs.Puts.{Puts}
-use Rattle.commands.specs.Rows.{Form, Lists, Memory, buffer, entry_fields, frame_fields, iterator_cursor, lent_cursor, list_of_places, own, root_list, second, word_alone}
+use Rattle.commands.specs.Rows.{Lists}
 use Rattle.commands.specs.Promise.{lists}
 use Rattle.script.specs.declared.Command.{Command}
 use Rattle.script.specs.declared.Session.{Session}
-use Rattle.script.specs.declared.Started.{Started}
-use Rattle.script.specs.declared.Started.TheVariants as Start
+use Rattle.script.specs.declared.NotStarted.{NotStarted}
+use Rattle.script.specs.declared.NotStarted.TheVariants as Not
 use Rattle.script.specs.Replay.{Play, ScriptHolds, Turned, play_after, text_from, turn_of}
-
--- ---- forms and memory by their numbers
-
-unfoldable pub form_at : ℕ → Form
-form_at n = get_or (word_alone ∷ second ∷ entry_fields ∷ frame_fields ∷ iterator_cursor ∷ lent_cursor ∷ []) n lent_cursor
-
-unfoldable pub memory_at : ℕ → Memory
-memory_at n = get_or (own ∷ buffer ∷ list_of_places ∷ root_list ∷ []) n root_list
 
 -- ---- the lent buffers
 
@@ -208,10 +200,10 @@ pub record StartAnswer : Type 0 where
   pub refusal : ℕ
   pub session : Option Session
 
-unfoldable pub started_is : Started → StartAnswer
-started_is (Start.Ready p) = record { refusal = 0; session = some p }
-started_is Start.Refused = record { refusal = 10; session = none }
-started_is Start.Short = record { refusal = 8; session = none }
+unfoldable pub started_is : Result Session NotStarted → StartAnswer
+started_is (Ok p) = record { refusal = 0; session = some p }
+started_is (Err Not.Refused) = record { refusal = 10; session = none }
+started_is (Err Not.Short) = record { refusal = 8; session = none }
 
 -- 8: a lent buffer is too short; 10: the first byte is no layout
 unfoldable pub started_by : Bool → Bool → StartAnswer
@@ -223,7 +215,7 @@ unfoldable pub opens_first : List ℕ → Bool
 opens_first input = is_some (open_heap (first_opening input))
 
 -- u and v: the buffers before and after; a refusal leaves them
-pub record Starts (input : List ℕ) (u : Buffers) (r : Started) (v : Buffers) : Type 0 where
+pub record Starts (input : List ℕ) (u : Buffers) (r : Result Session NotStarted) (v : Buffers) : Type 0 where
   pub answer : started_is r ≡ started_by (roomy input u) (opens_first input)
   pub accepted : roomy input u ≡ true → opens_first input ≡ true → SessionReady input v first_session × (open_heap (first_opening input) ≡ some (play_of input v first_session).heap)
   pub refused : (started_is r).session ≡ none → v ≡ u

@@ -8,6 +8,8 @@ use native.Mathlib.Omega.{arith}
 use lib.Dec.{eqb, leb}
 use lib.ListN.{length, get_or, take, drop, length-drop}
 use lib.Seq.{drop-drop, drop-length, length-take-le, take_all}
+use Rattle.std.proofs.Common as Std
+use Rattle.std.proofs.Common.{Result, Some, None}
 use Rattle.history.proofs.Facts.{eqb_no}
 use Rattle.history.proofs.Lift.{seen}
 use Rattle.layout.specs.Layout.{Layout}
@@ -19,12 +21,13 @@ use Rattle.model.specs.Calls.{collect, new_array, new_box, read_box}
 use Rattle.model.specs.Model.{Model}
 use Rattle.model.specs.Step.{step}
 use Rattle.model.specs.Callsheet.{Sheet, answer_word, call_of, called, commanded, digits, little_endian, operand_bytes, present_operands, printed, rooted, unknown}
+use Rattle.heap.specs.Answers.{reading_is}
 use Rattle.heap.specs.State.{State, model_of}
+use Rattle.heap.specs.declared.Refusal.{Refusal}
+use Rattle.sheet.specs.declared.Sheet as Declared
 use Rattle.sheet.specs.declared.SheetLine.{SheetLine}
-use Rattle.sheet.specs.declared.Operands.{Operands}
-use Rattle.sheet.specs.declared.Operands.TheVariants.{Bytes, Missing}
 use Rattle.sheet.specs.Turns.{operands_is, turn_by, turn_of}
-use Rattle.sheet.specs.Promise.{Commands, Roots, Shows, Turns, sheet_of}
+use Rattle.sheet.specs.Promise.{Commands, Roots, Shows, Turns, model_in, roots_in, sheet_of, shown_of}
 use Rattle.sheet.proofs.OperandLaws.{supplied_size}
 
 -- ---- the call by the command
@@ -70,29 +73,26 @@ turn_short s c bs = go (present_operands (length bs) (operand_bytes c))
 
 -- ---- a call and its line
 
-pub commands_call : {l : Layout} (c : ℕ) {bs roots : List ℕ} {b a : State} {r : SheetLine} {out out' : List ℕ} {end end' : ℕ} → (c ≡ 0x0B → ⊥) → Shows l (call_of c bs roots) b r a →
-    Puts (printed (digits 16 2 c) r.refusal r.word a.heap.account.used) out end out' end' → Commands (sheet_of l b roots) c bs out end (sheet_of l a roots) out' end'
+pub commands_call : (c : ℕ) {bs : List ℕ} {b a : Declared.Sheet} {r : Result ℕ Refusal} {y : SheetLine} {out out' : List ℕ} {end end' : ℕ} → (c ≡ 0x0B → ⊥) → Shows (call_of c bs (roots_in b)) b r a → y ≡ shown_of (reading_is r) →
+    Puts (printed (digits 16 2 c) y.refusal y.word a.heap.account.used) out end out' end' → Commands (sheet_of b) c bs out end (sheet_of a) out' end'
 unfolding commanded called seen model_of
-commands_call {l} c {bs} {roots} {b} {a} {r} h s p =
-    let o = step (model_of l b) (call_of c bs roots) in
+commands_call c {bs} {b} {a} {r} {y} h s e p =
+    let o = step (model_in b) (call_of c bs (roots_in b)) in
     let n = eqb_no c 0x0B h in
-    let er : r.refusal ≡ o.refusal = ap (λ (x : SheetLine). x.refusal) s.shown in
-    let ew : r.word ≡ answer_word o.answer = ap (λ (x : SheetLine). x.word) s.shown in
-    let eu : a.heap.account.used ≡ o.next.account.used = ap (λ (m : Model). m.account.used) s.next in
-    record {
-      text = rw n (rw (er, ew, eu) at p);
-      next = rw n (ap (λ (m : Model). record { heap = m; roots = roots }) (sym s.next));
-    }
+    let er : y.refusal ≡ o.refusal = ap (λ (x : SheetLine). x.refusal) (e ∙ s.shown) in
+    let ew : y.word ≡ answer_word o.answer = ap (λ (x : SheetLine). x.word) (e ∙ s.shown) in
+    let eu : a.heap.account.used ≡ o.next.account.used = ap (λ (m : Sheet). m.heap.account.used) s.next in
+    record { text = rw n (rw (er, ew, eu) at p); next = rw n (sym s.next) }
 
 -- ---- a root and its line
 
-pub commands_root : {before after bs : List ℕ} {count w n used : ℕ} {out out' : List ℕ} {end end' refusal : ℕ} → count ≤ length before → w ≡ little_endian (take 8 bs) → Roots before count w after n → refusal ≡ cond (leb 64 count) 4 0 →
-    Puts (printed (digits 16 2 0x0B) refusal 0 used) out end out' end' → (m : Model) → m.account.used ≡ used →
-    Commands (record { heap = m; roots = take count before }) 0x0B bs out end (record { heap = m; roots = take n after }) out' end'
-unfolding commanded rooted
-commands_root {before} {after} {bs} {count} {w} fits ew g er p m eu =
-    let e : length (take count before) ≡ count = length-take-le count before fits in
-    record { text = rw (e, eu, ← er) p; next = rw (e, ← ew, ← g.roots) }
+pub commands_root : {b a : Declared.Sheet} {w r : ℕ} {bs out out' : List ℕ} {end end' : ℕ} → b.count ≤ length b.roots → w ≡ little_endian (take 8 bs) → Roots b w r a →
+    Puts (printed (digits 16 2 0x0B) r 0 a.heap.account.used) out end out' end' → Commands (sheet_of b) 0x0B bs out end (sheet_of a) out' end'
+unfolding commanded rooted model_of
+commands_root {b} {a} fits ew g p =
+    let e : length (roots_in b) ≡ b.count = length-take-le b.count b.roots fits in
+    let eu : a.heap.account.used ≡ b.heap.account.used = ap (λ (m : Model). m.account.used) g.same in
+    record { text = rw (e, ← g.refusal, ← eu) p; next = rw (e, ← ew) (λ j. record { heap = sym g.same j; roots = sym g.roots j }) }
 
 -- ---- turns
 
@@ -107,16 +107,16 @@ tail_whole input at = take_all (length input - at) (drop at input) (omega (arith
 pub commands_same : {s : Sheet} {c c' : ℕ} {bs bs' out : List ℕ} {end : ℕ} {a : Sheet} {out' : List ℕ} {end' : ℕ} → c ≡ c' → bs ≡ bs' → Commands s c bs out end a out' end' → Commands s c' bs' out end a out' end'
 commands_same e f p = rw (e, f) at p
 
-module _ {s : Sheet} {input : List ℕ} (at : ℕ) {out : List ℕ} {end : ℕ} {out' : List ℕ} {end' : ℕ} {r : Operands}
+module _ {s : Sheet} {input : List ℕ} (at : ℕ) {out : List ℕ} {end : ℕ} {out' : List ℕ} {end' : ℕ} {r : Std.Option ℕ}
     (inside : at < length input)
     (p : operands_is r ≡ present_operands (length (drop (at + 1) input)) (operand_bytes (get_or input at 0))) where
-  pub turns_missing : {used : ℕ} → r ≡ Missing → s.heap.account.used ≡ used → Puts (printed (63 ∷ 63 ∷ []) 4 0 used) out end out' end' → Turns s input at out end s (length input) out' end'
+  pub turns_missing : {used : ℕ} → r ≡ None → s.heap.account.used ≡ used → Puts (printed (63 ∷ 63 ∷ []) 4 0 used) out end out' end' → Turns s input at out end s (length input) out' end'
   unfolding turn_of turn_by operands_is unknown
   turns_missing e u q =
       let t : present_operands (length (drop (at + 1) input)) (operand_bytes (get_or input at 0)) ≡ none = sym p ∙ rw e in
       record { text = rw (t, u) q; next = rw t; rest = rw t (sym (drop-length input)); onward = inside; within = omega arith }
 
-  pub turns_command : {c : ℕ} {bs : List ℕ} {a : Sheet} (n : ℕ) → r ≡ Bytes n → c ≡ get_or input at 0 → bs ≡ drop (at + 1) input → Commands s c bs out end a out' end' → Turns s input at out end a (at + 1 + n) out' end'
+  pub turns_command : {c : ℕ} {bs : List ℕ} {a : Sheet} (n : ℕ) → r ≡ Some n → c ≡ get_or input at 0 → bs ≡ drop (at + 1) input → Commands s c bs out end a out' end' → Turns s input at out end a (at + 1 + n) out' end'
   unfolding turn_of turn_by operands_is
   turns_command n e x y d =
       let t : present_operands (length (drop (at + 1) input)) (operand_bytes (get_or input at 0)) ≡ some n = sym p ∙ rw e in

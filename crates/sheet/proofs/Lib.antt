@@ -2,6 +2,5 @@ pub mod TurnLaws
 pub mod OperandLaws
 pub mod ShownLaws
 pub mod CommandLaws
-pub mod ReadyLaws
 pub mod PlayLaws
 pub mod OpeningLaws

@@ -1,6 +1,6 @@
 -- The heap that document 01's program opens. Assumes nothing.
 use Prim.Native.Nat.{ℕ, ◌*◌, ◌≤◌, ◌<◌, min}
-use mathlib.Core.Path.{◌≡◌, refl, sym, ap, ap₂, ◌∙◌}
+use mathlib.Core.Path.{◌≡◌, refl, sym, ap, ap₂, subst, ◌∙◌}
 use mathlib.Core.Bool.{Bool, true, false}
 use mathlib.Core.List.{List, [], ◌∷◌}
 use mathlib.Core.Option.{some}
@@ -8,24 +8,24 @@ use native.Mathlib.Omega.{arith}
 use lib.Dec.{leb}
 use lib.ListN.{length, take, length-take}
 use lib.Seq.{length-take-le, take_all, take-take}
+use Rattle.std.proofs.Common as Std
+use Rattle.std.proofs.Common.{Result, Ok, Err, Some, None}
 use Rattle.history.proofs.Facts.{leb_no, leb_yes}
 use Rattle.heap_slots.proofs.Cases.{by_cases, lt_or_le}
 use Rattle.layout.specs.Layout as Layout-
-use Rattle.layout.specs.Sections.{layout_of}
+use Rattle.layout.specs.Sections.{Tabled, layout_of}
+use Rattle.layout.specs.declared.ReadLayout.{ReadLayout}
 use Rattle.model.specs.Opening.{Opening, open_heap, open_with, sizes_fit}
 use Rattle.model.specs.Terms.{is_some}
 use Rattle.model.specs.Callsheet.{sheet_heap, sheet_opening, sheet_text}
-use Rattle.heap.specs.State.{model_of, state}
-use Rattle.heap.specs.Good as Good
-use Rattle.heap.specs.Opens.{Beside, Opens, accepts, new_heap, opened_by, opening_of, room_for}
+use Rattle.heap.specs.Good.{Good}
+use Rattle.heap.specs.State.{model_of}
+use Rattle.heap.specs.Opens.{accepts, beside, new_heap, opened_by, opening_of, room_for}
 use Rattle.heap.specs.declared.Heap.{Heap}
-use Rattle.heap.specs.declared.Opened.{Opened}
-use Rattle.heap.specs.declared.Opened.TheVariants.{Ready, Refused}
 use Rattle.heap.specs.declared.Refusal.{Refusal}
 use Rattle.sheet.specs.Turns.{text_from}
-use Rattle.sheet.specs.Promise.{Answers, Printout, Prints, printout_is, printout_of, sheet_of, sheet_room}
-use Rattle.sheet.specs.declared.Printed.{Printed}
-use Rattle.sheet.specs.declared.Printed.TheVariants.{Short, Text}
+use Rattle.sheet.specs.Promise.{Answers, OpensHeap, Printout, Prints, Whole, held_in, printout_is, printout_of, sheet_room}
+use Rattle.sheet.specs.declared.Buffers.{Buffers}
 
 sheet-opens : open_heap sheet_opening ≡ some sheet_heap
 unfolding open_heap open_with sizes_fit sheet_heap Layout-.at_last Layout-.with_struct Layout-.with_field Layout-.with_function Layout-.with_register Layout-.with_capture Layout-.when Layout-.command Layout-.byte Layout-.proceed Layout-.reading Layout-.parse
@@ -35,50 +35,55 @@ abbrev sheet_record : Heap
 sheet_record = new_heap 256 1048576 sheet_opening.weights
 
 -- as long as 256 slots need
-pub record Buffers (s x f d c : List ℕ) (b : Beside) : Type 0 where
-  pub slots : length s ≡ 2048
-  pub scalars : length x ≡ 2048
-  pub list : length f ≡ 256
-  pub directory : length d ≡ 512
-  pub cells : length c ≡ 2048
+pub record Long (b : Buffers) : Type 0 where
+  pub slots : length b.slots ≡ 2048
+  pub scalars : length b.scalars ≡ 2048
+  pub list : length b.list ≡ 256
+  pub directory : length b.directory ≡ 512
+  pub cells : length b.cells ≡ 2048
   pub marks : length b.marks ≡ 256
   pub order : length b.order ≡ 512
-  pub table : length b.table ≡ 514
 
-abbrev opening_with : ℕ → Opening
-opening_with cells = opening_of 256 cells 1048576 sheet_opening.weights (0 ∷ [])
+module _ {b a : Buffers} {t t' : List ℕ} {r : Result Heap Refusal} (x : Long b) (n : length t ≡ 514) (p : OpensHeap (0 ∷ []) b t r a t') where
+  abbrev opening : Opening
+  opening = opening_of 256 (length b.cells) 1048576 sheet_opening.weights (0 ∷ [])
 
-module _ {s x f d c : List ℕ} {b y : Beside} {r : Opened} (z : Buffers s x f d c b) (p : Opens (opening_with (length c)) (state sheet_record s x f d c) b r y) where
-  accepted : accepts (opening_with (length c)) (state sheet_record s x f d c) b ≡ true
+  accepted : accepts opening (held_in sheet_record b) (beside t b.marks b.order) ≡ true
   unfolding accepts room_for is_some
-  accepted = rw (z.slots, z.scalars, z.list, z.directory, z.cells, z.marks, z.order, z.table, sheet-opens)
+  accepted = rw (x.slots, x.scalars, x.list, x.directory, x.cells, x.marks, x.order, n, sheet-opens)
 
-  ready : r ≡ Ready sheet_record
+  ready : r ≡ Ok sheet_record
   unfolding opened_by
-  ready = p.answer ∙ rw accepted
+  ready = p.opens.answer ∙ rw accepted
 
-  pub never_refused : (q : Refusal) → r ≡ Refused q → ⊥
-  never_refused q e = let f = ready in let w : ◌≡◌ {A = ℕ} 0 1 = cc in omega arith
+  pub never_refused : ((h : Heap) → r ≡ Ok h → ⊥) → ⊥
+  never_refused e = e sheet_record ready
 
-  opened-model : model_of (layout_of (0 ∷ [])) (state sheet_record s x f d c) ≡ sheet_heap
+  opened-model : model_of (layout_of (0 ∷ [])) (held_in sheet_record b) ≡ sheet_heap
   opened-model =
-      let m : open_heap (opening_with (length c)) ≡ some (model_of (layout_of (0 ∷ [])) (state sheet_record s x f d c)) = (p.accepted accepted).model in
-      let n : open_heap sheet_opening ≡ some (model_of (layout_of (0 ∷ [])) (state sheet_record s x f d c)) = rw z.cells at m in
+      let m : open_heap opening ≡ some (model_of (layout_of (0 ∷ [])) (held_in sheet_record b)) = (p.opens.accepted accepted).model in
+      let n : open_heap sheet_opening ≡ some (model_of (layout_of (0 ∷ [])) (held_in sheet_record b)) = rw x.cells at m in
       let s = sheet-opens in
       cc
 
-  module _ (h : Heap) (e : r ≡ Ready h) where
+  module _ (h : Heap) (e : r ≡ Ok h) where
     opened-heap : h ≡ sheet_record
     opened-heap = let f = ready in cc
 
-    pub opened-ready : Good.Ready (state h s x f d c) y.marks y.order (0 ∷ []) y.table
-    opened-ready = let q = p.accepted accepted in rw opened-heap record { good = q.good; rested = q.rested; tabled = q.tabled }
+    pub opened-tabled : Tabled (0 ∷ []) t'
+    opened-tabled = (p.opens.accepted accepted).tabled
 
-    pub opened_prints : (input : List ℕ) {out out' : List ℕ} {end : ℕ} → length input ≤ 65536 → Prints (text_from (sheet_of (layout_of (0 ∷ [])) (state h s x f d c) []) input) out out' end → Prints (sheet_text input) out out' end
+    pub opened-whole : (l : ReadLayout) (roots : List ℕ) → Whole record { heap = h; buffers = a; layout = l; roots = roots; count = 0 }
+    opened-whole l roots =
+        let q = p.opens.accepted accepted in
+        rw opened-heap record { good = subst Good (sym (p.kept sheet_record)) q.good; rested = q.rested; few = omega arith }
+
+    pub opened_prints : (input : List ℕ) {out out' : List ℕ} {end : ℕ} → length input ≤ 65536 → Prints (text_from (record { heap = model_of (layout_of (0 ∷ [])) (held_in h a); roots = [] }) input) out out' end → Prints (sheet_text input) out out' end
     unfolding sheet_text text_from
-    opened_prints input l q =
-        let a : take 65536 input ≡ input = take_all 65536 input l in
-        rw (a, ← opened-model) (rw opened-heap at q)
+    opened_prints input {out} {out'} {end} l q =
+        let m : model_of (layout_of (0 ∷ [])) (held_in h a) ≡ sheet_heap = ap (λ (k : Heap). model_of (layout_of (0 ∷ [])) (held_in k a)) opened-heap ∙ ap (model_of (layout_of (0 ∷ []))) (p.kept sheet_record) ∙ opened-model in
+        let w : take 65536 input ≡ input = take_all 65536 input l in
+        rw (w, ← m) q
 
 -- ---- the first 65,536 bytes
 
@@ -102,13 +107,13 @@ module _ (input : List ℕ) (n : ℕ) (e : n ≡ min (length input) 65536) where
   unfolding sheet_text
   first-text = rw (first-bytes, take-take 65536 65536 input (omega arith))
 
-  pub short-answers : {out : List ℕ} → length out < n * 62 → Answers input out Short out
+  pub short-answers : {out : List ℕ} → length out < n * 62 → Answers input out None out
   unfolding printout_is printout_of
   short-answers {out} h =
       let z : leb (sheet_room input) (length out) ≡ false = leb_no (sheet_room input) (length out) (omega arith) in
       record { printout = rw z; rest = refl }
 
-  pub text-answers : {out out' : List ℕ} (end : ℕ) → n * 62 ≤ length out → Prints (sheet_text (take n input)) out out' end → Answers input out (Text end) out'
+  pub text-answers : {out out' : List ℕ} (end : ℕ) → n * 62 ≤ length out → Prints (sheet_text (take n input)) out out' end → Answers input out (Some end) out'
   unfolding printout_is printout_of
   text-answers {out} {out'} end h p =
       let z : leb (sheet_room input) (length out) ≡ true = leb_yes (sheet_room input) (length out) (omega arith) in
@@ -117,12 +122,12 @@ module _ (input : List ℕ) (n : ℕ) (e : n ≡ min (length input) 65536) where
       record { printout = rw z (ap₂ (λ (x : ℕ) (y : List ℕ). record { refusal = 0; size = x; text = y }) e t); rest = p.rest }
 
 -- the text lies in the buffer
-pub text-within : {input out out' : List ℕ} {r : Printed} (n : ℕ) → Answers input out r out' → r ≡ Text n → n ≤ length out'
+pub text-within : {input out out' : List ℕ} {r : Std.Option ℕ} (n : ℕ) → Answers input out r out' → r ≡ Some n → n ≤ length out'
 unfolding printout_is printout_of
 text-within {input} {out} {out'} n a e = go (leb (sheet_room input) (length out)) refl
   where
-    same : printout_is (Text n) out' ≡ printout_of input (length out)
-    same = ap (λ (x : Printed). printout_is x out') (sym e) ∙ a.printout
+    same : printout_is (Some n) out' ≡ printout_of input (length out)
+    same = ap (λ (x : Std.Option ℕ). printout_is x out') (sym e) ∙ a.printout
 
     go : (t : Bool) → leb (sheet_room input) (length out) ≡ t → n ≤ length out'
     go true z =

@@ -8,11 +8,11 @@ use native.Mathlib.Omega.{arith}
 use borrow.Author.Tests.{leb-true, ne_eqb}
 use lib.Dec.{leb}
 use lib.ListN.{length}
+use Rattle.std.proofs.Common as Std
+use Rattle.std.proofs.Common.{Some, None}
 use Rattle.history.proofs.Facts.{leb_yes, leb_no}
 use Rattle.model.specs.Callsheet.{operand_bytes, present_operands}
 use Rattle.sheet.specs.Turns.{Supplied, operands_is}
-use Rattle.sheet.specs.declared.Operands.{Operands}
-use Rattle.sheet.specs.declared.Operands.TheVariants.{Bytes, Missing}
 
 pub operands-unknown : (c : ℕ) → (c ≡ 0x01 → ⊥) → (c ≡ 0x02 → ⊥) → (c ≡ 0x06 → ⊥) → (c ≡ 0x0B → ⊥) → (c ≡ 0x0C → ⊥) → operand_bytes c ≡ none
 unfolding operand_bytes
@@ -20,15 +20,15 @@ operands-unknown c a b d e f = rw (ne_eqb c 0x01 a, ne_eqb c 0x02 b, ne_eqb c 0x
 
 -- ---- all present, or not
 
-pub present-unknown : (have c : ℕ) {r : Operands} → operands_is r ≡ operand_bytes c → r ≡ Missing → operands_is Missing ≡ present_operands have (operand_bytes c)
+pub present-unknown : (have c : ℕ) {r : Std.Option ℕ} → operands_is r ≡ operand_bytes c → r ≡ None → operands_is None ≡ present_operands have (operand_bytes c)
 unfolding operands_is present_operands
 present-unknown have c p e = rw (← p, e)
 
-pub present-short : (have c n : ℕ) {r : Operands} → operands_is r ≡ operand_bytes c → r ≡ Bytes n → have < n → operands_is Missing ≡ present_operands have (operand_bytes c)
+pub present-short : (have c n : ℕ) {r : Std.Option ℕ} → operands_is r ≡ operand_bytes c → r ≡ Some n → have < n → operands_is None ≡ present_operands have (operand_bytes c)
 unfolding operands_is present_operands
 present-short have c n p e h = rw (← p, e) (rw (leb_no n have h))
 
-pub present-whole : (have c n : ℕ) {r : Operands} → operands_is r ≡ operand_bytes c → r ≡ Bytes n → n ≤ have → operands_is (Bytes n) ≡ present_operands have (operand_bytes c)
+pub present-whole : (have c n : ℕ) {r : Std.Option ℕ} → operands_is r ≡ operand_bytes c → r ≡ Some n → n ≤ have → operands_is (Some n) ≡ present_operands have (operand_bytes c)
 unfolding operands_is present_operands
 present-whole have c n p e h = rw (← p, e) (rw (leb_yes n have h))
 
@@ -43,7 +43,7 @@ supplied_by have n (some m) e = go (leb m have) refl e
     go true h e = (sym e, let q : n ≡ m = cc in omega (arith, leb-true m have h))
     go false h e = let z : ◌≡◌ {A = ℕ} 0 1 = cc in absurd (omega arith)
 
-module _ (c n : ℕ) (bs : List ℕ) {r : Operands} (p : operands_is r ≡ present_operands (length bs) (operand_bytes c)) (e : r ≡ Bytes n) where
+module _ (c n : ℕ) (bs : List ℕ) {r : Std.Option ℕ} (p : operands_is r ≡ present_operands (length bs) (operand_bytes c)) (e : r ≡ Some n) where
   told : some n ≡ present_operands (length bs) (operand_bytes c)
   unfolding operands_is
   told = rw e at p

@@ -48,15 +48,3 @@ module _ {whole input out₀ : List ℕ} {s : Sheet} {at : ℕ} {out : List ℕ}
       let e : take end out ≡ whole = sym (append-nil (take end out)) ∙ rw (← text-none s, ← d) g.text in
       let w : end ≤ length out = omega (arith, g.room) in
       record { text = e; ends = sym (length-take-le end out w); within = w; rest = g.rest }
-
--- the lent buffers keep their lengths
-pub record Kept (slots₀ scalars₀ list₀ directory₀ cells₀ marks₀ order₀ roots₀ out₀ slots₁ scalars₁ list₁ directory₁ cells₁ marks₁ order₁ roots₁ out₁ : List ℕ) : Type 0 where
-  pub slots : length slots₁ ≡ length slots₀
-  pub scalars : length scalars₁ ≡ length scalars₀
-  pub list : length list₁ ≡ length list₀
-  pub directory : length directory₁ ≡ length directory₀
-  pub cells : length cells₁ ≡ length cells₀
-  pub marks : length marks₁ ≡ length marks₀
-  pub order : length order₁ ≡ length order₀
-  pub roots : length roots₁ ≡ length roots₀
-  pub out : length out₁ ≡ length out₀

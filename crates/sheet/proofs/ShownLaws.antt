@@ -1,67 +1,68 @@
--- What a line shows of a call. Assumes nothing.
-use Prim.Native.Nat.{ℕ, ◌+◌, ◌≤◌, ◌<◌}
-use mathlib.Core.Path.{◌≡◌, refl, ap, ◌∙◌}
-use mathlib.Core.List.{List}
+-- What a line shows of a call, and the sheet after it. Assumes nothing.
+use Prim.Native.Nat.{ℕ, ◌+◌, ◌<◌}
+use mathlib.Core.Path.{◌≡◌, refl, sym, ap, ◌∙◌}
+use mathlib.Core.List.{List, [], ◌∷◌, ◌++◌}
+use mathlib.Core.Bool.{cond}
 use native.Mathlib.Omega.{arith}
 use native.Mathlib.Numerals.{add-one}
-use lib.ListN.{length, set}
+use lib.Dec.{leb}
+use lib.ListN.{length, set, take}
 use lib.Seq.{take-suc-set}
-use Rattle.layout.specs.Layout.{Layout}
+use Rattle.std.proofs.Common.{Result, Ok, Err}
+use Rattle.layout.specs.Sections.{layout_of}
+use Rattle.layout.specs.declared.ReadLayout.{ReadLayout}
 use Rattle.map_store.specs.Store as Store
 use Rattle.words.specs.Word as Word
-use Rattle.history.proofs.Facts.{leb_no, leb_yes}
+use Rattle.history.proofs.Facts.{leb_no}
 use Rattle.history.proofs.Lift.{Seen}
+use Rattle.history.proofs.Sizes.{step-size}
 use Rattle.model.specs.Calls.{Call}
+use Rattle.model.specs.Model.{Model}
 use Rattle.model.specs.Callsheet.{answer_word, reply_word}
-use Rattle.heap.specs.declared.Heap.{Heap}
-use Rattle.heap.specs.declared.Reading.{Reading}
-use Rattle.heap.specs.declared.Reading.TheVariants as Read
 use Rattle.heap.specs.declared.Refusal.{Refusal}
-use Rattle.heap.specs.Answers.{made_is, number_of, reading_is}
-use Rattle.heap.specs.State.{State, state}
+use Rattle.heap.specs.Answers.{made_is, reading_is, seen_by}
+use Rattle.heap.specs.State.{model_of}
 use Rattle.heap.specs.Promise.{Does, Performs}
 use Rattle.collector.specs.declared.Collection.{Collection}
-use Rattle.collector.specs.declared.Collection.TheVariants as Collect
 use Rattle.collector.specs.Answer.{collection_is}
-use Rattle.sheet.specs.declared.SheetLine.{SheetLine}
-use Rattle.sheet.specs.Promise.{Roots, Shows, shown_of}
+use Rattle.sheet.specs.declared.Sheet.{Sheet}
+use Rattle.sheet.specs.Promise.{Shows, Whole, model_in, roots_in, shown_of, state_in}
 
-module _ (h : Heap) where
-  pub shown-word : {a : Reading} (w : ℕ) → a ≡ Read.Is w → record { heap = h; word = w; refusal = 0 } ≡ shown_of h (reading_is a)
-  unfolding reading_is answer_word reply_word
-  shown-word w e = rw e
-
-  pub shown-refused : {a : Reading} (q : Refusal) (n : ℕ) → a ≡ Read.Refused q → n ≡ number_of q → record { heap = h; word = 0; refusal = n } ≡ shown_of h (reading_is a)
-  unfolding reading_is answer_word reply_word
-  shown-refused q n e p = rw (e, p)
-
-  shown-made : (a : Reading) → shown_of h (reading_is a) ≡ shown_of h (made_is a)
-  unfolding reading_is made_is answer_word reply_word
-  shown-made (Read.Is w) = refl
-  shown-made (Read.Refused q) = refl
-
-  pub shown-freed : {a : Collection} (freed listed : ℕ) → a ≡ Collect.Done freed listed → (places : List ℕ) → record { heap = h; word = freed; refusal = 0 } ≡ shown_of h (collection_is a places)
-  unfolding collection_is answer_word reply_word
-  shown-freed freed listed e places = rw e
-
-  pub shown-short : {a : Collection} (q : Refusal) (n : ℕ) → a ≡ Collect.Refused q → n ≡ number_of q → (places : List ℕ) → record { heap = h; word = 0; refusal = n } ≡ shown_of h (collection_is a places)
-  unfolding collection_is answer_word reply_word
-  shown-short q n e p places = rw (e, p)
+shown-made : (a : Result ℕ Refusal) → shown_of (made_is a) ≡ shown_of (reading_is a)
+unfolding seen_by answer_word reply_word
+shown-made (Ok w) = refl
+shown-made (Err q) = refl
 
 -- ---- from what a call promises
 
-module _ {b : State} {h : Heap} {s x f d c : List ℕ} {r : SheetLine} where
-  pub shows-does : {l : Layout} {k : Call} {o : Seen} → Does l k b o (state h s x f d c) → r ≡ shown_of h o → Shows l k b r (state r.heap s x f d c)
-  shows-does p e = rw e record { shown = ap (λ (o : Seen). shown_of h o) p.shows; next = p.next; good = p.good }
+module _ {b a : Sheet} {k : Call} (w : Whole b) (l : a.layout ≡ b.layout) (s : roots_in a ≡ roots_in b) (n : a.count ≡ b.count) (m : a.buffers.marks ≡ b.buffers.marks) (o : a.buffers.order ≡ b.buffers.order) where
+  shows-does : {x : Seen} {r : Result ℕ Refusal} → Does (layout_of b.layout.bytes.now) k (state_in b) x (state_in a) → shown_of x ≡ shown_of (reading_is r) → Shows k b r a
+  unfolding model_of
+  shows-does d e =
+      let size : a.heap.size ≡ b.heap.size = ap (λ (y : Model). y.table.size) d.next ∙ step-size (model_in b) k in
+      let held : model_in a ≡ model_of (layout_of b.layout.bytes.now) (state_in a) = ap (λ (y : ReadLayout). model_of (layout_of y.bytes.now) (state_in a)) l in
+      record {
+        shown = sym e ∙ ap shown_of d.shows;
+        next = λ j. record { heap = (held ∙ d.next) j; roots = s j };
+        whole = record { good = d.good; rested = rw (size, m, o) w.rested; few = rw n w.few };
+      }
 
-  pub shows_read : {k : Call} (k' : Call) (a : Reading) → k ≡ k' → Performs k b (reading_is a) (state h s x f d c) → r ≡ shown_of h (reading_is a) → (l : Layout) → Shows l k' b r (state r.heap s x f d c)
-  shows_read k' a q p e l = rw q at (shows-does (p l) e)
+  pub shows-reading : {r : Result ℕ Refusal} → Performs k (state_in b) (reading_is r) (state_in a) → Shows k b r a
+  shows-reading p = shows-does (p (layout_of b.layout.bytes.now)) refl
 
-  pub shows-made : {k : Call} (k' : Call) (a : Reading) → k ≡ k' → Performs k b (made_is a) (state h s x f d c) → r ≡ shown_of h (reading_is a) → (l : Layout) → Shows l k' b r (state r.heap s x f d c)
-  shows-made k' a q p e l = rw q at (shows-does (p l) (e ∙ shown-made h a))
+  pub shows-made : {r : Result ℕ Refusal} → Performs k (state_in b) (made_is r) (state_in a) → Shows k b r a
+  shows-made {r} p = shows-does (p (layout_of b.layout.bytes.now)) (shown-made r)
 
--- the same call by another name
-pub shows_same : {l : Layout} {k k' : Call} {b a : State} {r : SheetLine} → k ≡ k' → Shows l k b r a → Shows l k' b r a
+  pub shows-freed : {c : Collection} {r : Result Collection Refusal} (places : List ℕ) → r ≡ Ok c → Does (layout_of b.layout.bytes.now) k (state_in b) (collection_is r places) (state_in a) → Shows k b (Ok c.freed) a
+  unfolding collection_is seen_by answer_word reply_word
+  shows-freed places e d = shows-does (rw e at d) refl
+
+  pub shows-short : {q : Refusal} {r : Result Collection Refusal} (places : List ℕ) → r ≡ Err q → Does (layout_of b.layout.bytes.now) k (state_in b) (collection_is r places) (state_in a) → Shows k b (Err q) a
+  unfolding collection_is seen_by answer_word reply_word
+  shows-short places e d = shows-does (rw e at d) refl
+
+-- the same call by another name, and the same answer
+pub shows_same : {k k' : Call} {b a : Sheet} {r : Result ℕ Refusal} → k ≡ k' → Shows k b r a → Shows k' b r a
 shows_same e p = rw e at p
 
 pub signed_same : (w : ℕ) → Word.signed_bits w ≡ Store.signed64 w
@@ -70,8 +71,5 @@ signed_same w = refl
 
 -- ---- roots
 
-pub root-added : (roots : List ℕ) (count w : ℕ) → count < 64 → 64 ≤ length roots → Roots roots count w (set roots count w) (count + 1)
-root-added roots count w h l = record { roots = rw (leb_no 64 count h, add-one count) (take-suc-set roots count w (omega arith)); few = omega arith }
-
-pub root-full : (roots : List ℕ) (count w : ℕ) → 64 ≤ count → count ≤ 64 → Roots roots count w roots count
-root-full roots count w h l = record { roots = rw (leb_yes 64 count h); few = l }
+pub root-added : (roots : List ℕ) (count w : ℕ) → count < 64 → length roots ≡ 64 → take (count + 1) (set roots count w) ≡ cond (leb 64 count) (take count roots) (take count roots ++ (w ∷ []))
+root-added roots count w h l = rw (leb_no 64 count h, add-one count) (take-suc-set roots count w (omega arith))

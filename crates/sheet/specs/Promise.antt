@@ -1,50 +1,76 @@
--- What the functions promise, from the heap's state and the roots before to those after.
-use Rattle.std.specs.Prelude.{ℕ, ◌+◌, ◌*◌, ◌≤◌, ◌<◌, min, ◌≡◌, cond, List, [], ◌∷◌, ◌++◌, leb, length, get_or, take, drop}
-use Rattle.layout.specs.Layout.{Layout}
+-- What the functions promise, from the sheet before to the sheet after.
+use Rattle.std.specs.Prelude.{ℕ, ◌+◌, ◌*◌, ◌≤◌, ◌<◌, min, ◌≡◌, cond, List, [], ◌∷◌, ◌++◌, leb, length, get_or, take, drop, Option, Some, None, Result}
+use Rattle.layout.specs.Sections.{layout_of}
 use Rattle.history.proofs.Lift.{Seen, seen}
 use Rattle.text.specs.Puts.{Puts}
 use Rattle.model.specs.Calls.{Call}
+use Rattle.model.specs.Model.{Model}
 use Rattle.model.specs.Step.{step}
-use Rattle.model.specs.Callsheet.{Sheet, answer_word, commanded, sheet_text}
+use Rattle.model.specs.Callsheet as Callsheet
+use Rattle.model.specs.Callsheet.{answer_word, commanded, sheet_opening, sheet_text}
+use Rattle.heap.specs.declared.Refusal.{Refusal}
+use Rattle.heap.specs.Answers.{reading_is}
+use Rattle.heap.specs.State.{State, model_of, state}
+use Rattle.heap.specs.Good.{Good, Rested}
 use Rattle.heap.specs.declared.Heap.{Heap}
-use Rattle.heap.specs.State.{State, model_of}
-use Rattle.heap.specs.Good.{Good}
-use Rattle.sheet.specs.declared.Printed.{Printed}
-use Rattle.sheet.specs.declared.Printed.TheVariants.{Short, Text}
+use Rattle.heap.specs.Opens.{Opens, beside, new_heap, opening_of}
+use Rattle.sheet.specs.declared.Buffers.{Buffers}
+use Rattle.sheet.specs.declared.Sheet.{Sheet}
 use Rattle.sheet.specs.declared.SheetLine.{SheetLine}
 use Rattle.sheet.specs.Turns.{turn_of}
 
--- the sheet that the heap's state and the roots hold
-abbrev pub sheet_of : Layout → State → List ℕ → Sheet
-sheet_of l t roots = record { heap = model_of l t; roots = roots }
+-- the record over the buffers
+abbrev pub held_in : Heap → Buffers → State
+held_in h b = state h b.slots b.scalars b.list b.directory b.cells
+
+-- the heap's state, the model that it holds, and the roots given so far
+abbrev pub state_in : Sheet → State
+state_in s = held_in s.heap s.buffers
+
+abbrev pub model_in : Sheet → Model
+model_in s = model_of (layout_of s.layout.bytes.now) (state_in s)
+
+abbrev pub roots_in : Sheet → List ℕ
+roots_in s = take s.count s.roots
+
+abbrev pub sheet_of : Sheet → Callsheet.Sheet
+sheet_of s = record { heap = model_in s; roots = roots_in s }
+
+-- what holds of a sheet between commands
+pub record Whole (s : Sheet) : Type 0 where
+  pub good : Good (state_in s)
+  pub rested : Rested s.heap.size s.buffers.marks s.buffers.order
+  pub few : s.count ≤ 64
+
+-- the program's heap opened over the buffers b, which became a, with the table of the layout's sections beside them
+pub record OpensHeap (layout : List ℕ) (b : Buffers) (table : List ℕ) (r : Result Heap Refusal) (a : Buffers) (table' : List ℕ) : Type 0 where
+  pub opens : Opens (opening_of 256 (length b.cells) 1048576 sheet_opening.weights layout) (held_in (new_heap 256 1048576 sheet_opening.weights) b) (beside table b.marks b.order) r (beside table' a.marks a.order)
+  pub kept : (h : Heap) → held_in h a ≡ held_in h b
 
 -- what a line shows of a call
-abbrev pub shown_of : Heap → Seen → SheetLine
-shown_of h o = record { heap = h; word = answer_word o.answer; refusal = o.refusal }
+abbrev pub shown_of : Seen → SheetLine
+shown_of o = record { word = answer_word o.answer; refusal = o.refusal }
 
--- the call k was made on the state b, left the state a, and r is shown of it
-pub record Shows (l : Layout) (k : Call) (b : State) (r : SheetLine) (a : State) : Type 0 where
-  pub shown : r ≡ shown_of a.heap (seen (step (model_of l b) k))
-  pub next : model_of l a ≡ (step (model_of l b) k).next
-  pub good : Good a
+-- the call k was made on the sheet b, left the sheet a, and r is shown of it; the roots stay
+pub record Shows (k : Call) (b : Sheet) (r : Result ℕ Refusal) (a : Sheet) : Type 0 where
+  pub shown : shown_of (reading_is r) ≡ shown_of (seen (step (model_in b) k))
+  pub next : sheet_of a ≡ record { heap = (step (model_in b) k).next; roots = roots_in b }
+  pub whole : Whole a
 
 -- "0B root (word; a 65th gives 4)"
-pub record Roots (before : List ℕ) (count w : ℕ) (after : List ℕ) (r : ℕ) : Type 0 where
-  pub roots : take r after ≡ cond (leb 64 count) (take count before) (take count before ++ (w ∷ []))
-  pub few : r ≤ 64
-
--- room for 64 roots
-pub record Rooted (roots : List ℕ) (count : ℕ) : Type 0 where
-  pub room : 64 ≤ length roots
-  pub few : count ≤ 64
+pub record Roots (b : Sheet) (w r : ℕ) (a : Sheet) : Type 0 where
+  pub refusal : r ≡ cond (leb 64 b.count) 4 0
+  pub roots : roots_in a ≡ cond (leb 64 b.count) (roots_in b) (roots_in b ++ (w ∷ []))
+  pub same : model_in a ≡ model_in b
+  pub whole : Whole a
 
 -- the command c with the bytes behind it: its line is put into out, and a is the sheet afterwards
-pub record Commands (s : Sheet) (c : ℕ) (bs out : List ℕ) (end : ℕ) (a : Sheet) (out' : List ℕ) (end' : ℕ) : Type 0 where
+pub record Commands (s : Callsheet.Sheet) (c : ℕ) (bs out : List ℕ) (end : ℕ) (a : Callsheet.Sheet) (out' : List ℕ) (end' : ℕ) : Type 0 where
   pub text : Puts (commanded s c bs).text out end out' end'
   pub next : (commanded s c bs).next ≡ a
 
 -- the command at a place, or what stands for it: its line is put into out, the next command stands at at', and a is the sheet afterwards
-pub record Turns (s : Sheet) (input : List ℕ) (at : ℕ) (out : List ℕ) (end : ℕ) (a : Sheet) (at' : ℕ) (out' : List ℕ) (end' : ℕ) : Type 0 where
+pub record Turns (s : Callsheet.Sheet) (input : List ℕ) (at : ℕ) (out : List ℕ) (end : ℕ) (a : Callsheet.Sheet) (at' : ℕ) (out' : List ℕ) (end' : ℕ) : Type 0 where
   pub text : Puts (turn_of s (get_or input at 0) (drop (at + 1) input)).text out end out' end'
   pub next : (turn_of s (get_or input at 0) (drop (at + 1) input)).next ≡ a
   pub rest : (turn_of s (get_or input at 0) (drop (at + 1) input)).rest ≡ drop at' input
@@ -65,9 +91,9 @@ pub record Printout : Type 0 where
   pub text : List ℕ
 
 -- 8: a lent buffer that is too short
-unfoldable pub printout_is : Printed → List ℕ → Printout
-printout_is (Text n) out = record { refusal = 0; size = n; text = take n out }
-printout_is Short out = record { refusal = 8; size = 0; text = [] }
+unfoldable pub printout_is : Option ℕ → List ℕ → Printout
+printout_is (Some n) out = record { refusal = 0; size = n; text = take n out }
+printout_is None out = record { refusal = 8; size = 0; text = [] }
 
 -- 62 bytes for each byte of input that counts: a line takes at most 62 bytes, a command at least one
 abbrev pub sheet_room : List ℕ → ℕ
@@ -78,6 +104,6 @@ unfoldable pub printout_of : List ℕ → ℕ → Printout
 printout_of input n = cond (leb (sheet_room input) n) (record { refusal = 0; size = length (sheet_text input); text = sheet_text input }) (record { refusal = 8; size = 0; text = [] })
 
 -- what is answered and stands in the buffer is the program's text; what stands behind the text, of a refusal the whole buffer, stays
-pub record Answers (input out : List ℕ) (r : Printed) (out' : List ℕ) : Type 0 where
+pub record Answers (input out : List ℕ) (r : Option ℕ) (out' : List ℕ) : Type 0 where
   pub printout : printout_is r out' ≡ printout_of input (length out)
   pub rest : drop (printout_is r out').size out' ≡ drop (printout_is r out').size out

@@ -1,18 +1,16 @@
 -- One command of the program `callsheet` (document 01): what it prints, the sheet afterwards, and the input left.
-use Rattle.std.specs.Prelude.{ℕ, ◌≤◌, ◌≡◌, List, [], length, drop}
-use Rattle.std.proofs.Math.Option.{Option, none, some}
+use Rattle.std.specs.Prelude.{ℕ, ◌≤◌, ◌≡◌, List, [], length, drop, Option, Some, None}
+use Rattle.std.proofs.Math.Option as Model
 use Rattle.model.specs.Callsheet.{Sheet, commanded, operand_bytes, present_operands, sheet_from, unknown}
-use Rattle.sheet.specs.declared.Operands.{Operands}
-use Rattle.sheet.specs.declared.Operands.TheVariants.{Bytes, Missing}
 
 -- how many bytes of operands follow a command; none: an unknown command, or a missing operand
-unfoldable pub operands_is : Operands → Option ℕ
-operands_is (Bytes n) = some n
-operands_is Missing = none
+unfoldable pub operands_is : Option ℕ → Model.Option ℕ
+operands_is (Some n) = Model.some n
+operands_is None = Model.none
 
 -- the operands of a command that has any stand in the bytes
 abbrev pub Supplied : ℕ → List ℕ → Type 0
-Supplied c bs = (n : ℕ) → operand_bytes c ≡ some n → n ≤ length bs
+Supplied c bs = (n : ℕ) → operand_bytes c ≡ Model.some n → n ≤ length bs
 
 pub record Turned : Type 0 where
   pub text : List ℕ
@@ -20,9 +18,9 @@ pub record Turned : Type 0 where
   pub rest : List ℕ
 
 -- "an unknown command or missing operand prints `?? 4`, zeros, used, and ends": no input is left
-unfoldable pub turn_by : Sheet → ℕ → List ℕ → Option ℕ → Turned
-turn_by s c bs none = record { text = unknown s; next = s; rest = [] }
-turn_by s c bs (some n) = record { text = (commanded s c bs).text; next = (commanded s c bs).next; rest = drop n bs }
+unfoldable pub turn_by : Sheet → ℕ → List ℕ → Model.Option ℕ → Turned
+turn_by s c bs Model.none = record { text = unknown s; next = s; rest = [] }
+turn_by s c bs (Model.some n) = record { text = (commanded s c bs).text; next = (commanded s c bs).next; rest = drop n bs }
 
 -- the command c with the bytes behind it
 unfoldable pub turn_of : Sheet → ℕ → List ℕ → Turned

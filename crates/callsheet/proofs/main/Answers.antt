@@ -4,7 +4,7 @@ use Rattle.sheet.proofs.OpeningLaws.{text-within}
 use Rattle.callsheet.proofs.main.Goals as goal
 
 pub slice_bounds-out-end : goal.slice_bounds-out-end
-slice_bounds-out-end c = text-within c.in-Text.end c.run.ensures c.in-Text.is
+slice_bounds-out-end c = text-within c.in-Some.end c.run.ensures c.in-Some.is
 
 pub slice_bounds-write_all-end : goal.slice_bounds-write_all-end
-slice_bounds-write_all-end c = sym (length-take-le c.in-Text.end c.run.new.out (text-within c.in-Text.end c.run.ensures c.in-Text.is))
+slice_bounds-write_all-end c = sym (length-take-le c.in-Some.end c.run.new.out (text-within c.in-Some.end c.run.ensures c.in-Some.is))

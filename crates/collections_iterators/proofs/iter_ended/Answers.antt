@@ -1,15 +1,14 @@
-use Rattle.heap.specs.Answers.{test_is}
+use Rattle.std.proofs.lemmas.Result.{err_from_is_err_and}
 use Rattle.collections_iterators.proofs.IteratorLaws.{ended_read, ended-refused, iterator-scalars-fit}
 use Rattle.collections_iterators.proofs.iter_ended.Goals as goal
 
 pub read_part-x-requires : goal.read_part-x-requires
-read_part-x-requires c =
-    iterator-scalars-fit c.requires c.locate.ensures c.in-At.is
+read_part-x-requires c = iterator-scalars-fit c.args.view.now.good c.locate.ensures c.in_ok-i.was
 
-pub returns-in-Refused : goal.returns-in-Refused
-unfolding test_is
-returns-in-Refused c = search ended-refused
+pub returns-in_err-i : goal.returns-in_err-i
+returns-in_err-i c =
+    let p = err_from_is_err_and c.from_residual.result c.from_residual.ensures.1 in
+    rw (p.1, p.2) (ended-refused c.args.view.now.good c.locate.ensures c.in_err-i.was)
 
-pub returns-in-At : goal.returns-in-At
-unfolding test_is
-returns-in-At c = search ended_read
+pub returns : goal.returns
+returns c = ended_read c.args.view.now.good c.locate.ensures c.in_ok-i.was c.read_part-x.ensures

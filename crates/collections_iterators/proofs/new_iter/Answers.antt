@@ -1,31 +1,25 @@
-use Rattle.collections_iterators.proofs.BeginLaws.{iterates_array, iterates_dead, iterates_else, iterates_map, iterates_nil, iterates_wrong}
+use Rattle.std.proofs.lemmas.Result.{err_from_is_err_and}
+use native.Mathlib.Omega.{arith}
 use Rattle.heap.proofs.ReachLaws.{found-reached, scalars_fit, slot-fits}
+use Rattle.collections_iterators.proofs.BeginLaws.{iterates_array, iterates_else, iterates_map, iterates_missed}
 use Rattle.collections_iterators.proofs.new_iter.Goals as goal
 
-pub read_header-h-requires : goal.read_header-h-requires
-read_header-h-requires c =
-    slot-fits c.requires (found-reached c.requires c.find.ensures c.in-Ok.is)
+pub returns-in_err-j : goal.returns-in_err-j
+returns-in_err-j c =
+    let p = err_from_is_err_and c.from_residual.result c.from_residual.ensures.1 in
+    rw (p.1, p.2) (iterates_missed c.requires c.find.ensures c.in_err-j.was)
 
-pub returns-then-h-eq-ARRAY : goal.returns-then-h-eq-ARRAY
-returns-then-h-eq-ARRAY c =
-    iterates_array c.requires c.find.ensures c.in-Ok.is c.read_header-h.ensures c.if-h-eq-ARRAY.true c.begin_iter.ensures
+pub read_header-requires : goal.read_header-requires
+read_header-requires c = slot-fits c.requires (found-reached c.requires c.find.ensures c.in_ok-j.was)
 
 pub read_part-x-requires : goal.read_part-x-requires
-read_part-x-requires c =
-    scalars_fit c.requires (found-reached c.requires c.find.ensures c.in-Ok.is)
+read_part-x-requires c = scalars_fit c.requires (found-reached c.requires c.find.ensures c.in_ok-j.was)
 
-pub returns-then-h-eq-MAP : goal.returns-then-h-eq-MAP
-returns-then-h-eq-MAP c =
-    iterates_map c.requires c.find.ensures c.in-Ok.is c.read_header-h.ensures c.if-h-eq-MAP.true c.read_part-x.ensures c.begin_iter-then-h-eq-MAP.ensures
+pub returns-in-6 : goal.returns-in-6
+returns-in-6 c = iterates_array c.requires c.find.ensures c.in_ok-j.was c.read_header.ensures c.in-6.is c.begin_iter.ensures
 
-pub returns-in-Err-Nil : goal.returns-in-Err-Nil
-returns-in-Err-Nil c = iterates_nil c.requires c.find.ensures (cc)
+pub returns-in-7 : goal.returns-in-7
+returns-in-7 c = iterates_map c.requires c.find.ensures c.in_ok-j.was c.read_header.ensures c.in-7.is c.read_part-x.ensures c.begin_iter-in-7.ensures
 
-pub returns-in-Err-Dead : goal.returns-in-Err-Dead
-returns-in-Err-Dead c = iterates_dead c.requires c.find.ensures (cc)
-
-pub returns-in-Err-Wrong : goal.returns-in-Err-Wrong
-returns-in-Err-Wrong c = iterates_wrong c.requires c.find.ensures (cc)
-
-pub returns-else-h-eq-MAP : goal.returns-else-h-eq-MAP
-returns-else-h-eq-MAP c = search iterates_else
+pub returns-in_default : goal.returns-in_default
+returns-in_default c = iterates_else c.requires c.find.ensures c.in_ok-j.was c.read_header.ensures (λ z. absurd (omega (arith, z))) (λ z. absurd (omega (arith, z)))

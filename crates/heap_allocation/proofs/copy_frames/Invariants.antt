@@ -1,4 +1,4 @@
-use Rattle.std.proofs.Common.{◌-◌, ◌≡◌, ◌≤◌, length, take}
+use Rattle.std.proofs.Common.{◌≡◌, length}
 use Rattle.heap_allocation.specs.Frames.{copied}
 use Rattle.heap_allocation.proofs.FrameLaws.{Left}
 use Rattle.heap_allocation.proofs.copy_frames.Given as goal
@@ -6,10 +6,6 @@ use Rattle.heap_allocation.proofs.copy_frames.Given as goal
 -- what is left to copy comes to the whole
 abbrev pub invariant-loop-i : goal.invariant-loop-i
 invariant-loop-i l = record {
-  within : l.i ≤ l.n;
   same : length l.cells ≡ length l.initial.cells;
-  rest : Left (take l.n l.frames) l.at l.i l.cells ≡ copied (take l.n l.frames) l.initial.cells l.at;
+  rest : Left l.frames l.at l.i l.cells ≡ copied l.frames l.initial.cells l.at;
 }
-
-abbrev pub decreases-loop-i : goal.decreases-loop-i
-decreases-loop-i l = l.n - l.i

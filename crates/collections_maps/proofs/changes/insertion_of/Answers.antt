@@ -1,22 +1,20 @@
 use Rattle.std.proofs.Common.{refl}
 use Rattle.collections_maps.proofs.GrownLaws.{insert-asked, insert_longer}
-use Rattle.collections_maps.proofs.MapLaws.{map-good, map-slot, slot-epoch, slot-region}
+use Rattle.collections_maps.proofs.MapLaws.{map-slot, slot-known}
 use Rattle.collections_maps.proofs.changes.insertion_of.Goals as goal
 
-pub map_of-map-requires : goal.map_of-map-requires
-map_of-map-requires c = search slot-epoch
+pub map_in-map-requires : goal.map_in-map-requires
+map_in-map-requires c = slot-known c.requires.good c.requires.map c.read_header-h.ensures c.read_part-x.ensures
 
-pub region-requires : goal.region-requires
-region-requires c = slot-region c.requires.good c.requires.map c.read_header-h.ensures
-
-pub invariant_of-held : goal.invariant_of-held
-invariant_of-held c = record { good = map-good (map-slot c.requires.good c.requires.map c.read_header-h.ensures c.read_part-x.ensures c.map_of-map.ensures c.region.ensures) }
-
-pub growth_bytes-bytes-requires : goal.growth_bytes-bytes-requires
-growth_bytes-bytes-requires c = c.requires.good.weights.entry.1
+pub growth_bytes-requires : goal.growth_bytes-requires
+growth_bytes-requires c = c.requires.good.weights.entry.1
 
 pub overflow_sub-result : goal.overflow_sub-result
-overflow_sub-result c = insert_longer (map-slot c.requires.good c.requires.map c.read_header-h.ensures c.read_part-x.ensures c.map_of-map.ensures c.region.ensures) c.traced-t.result c.args.key c.cells_after_insert-size.ensures
+overflow_sub-result c =
+    let k = c.map_in-map.ensures in
+    insert_longer (map-slot c.requires.good c.requires.map c.read_header-h.ensures c.read_part-x.ensures k.store k.cells) c.traced-t.result c.args.key c.cells_after_insert-size.ensures
 
 pub returns : goal.returns
-returns c = insert-asked (map-slot c.requires.good c.requires.map c.read_header-h.ensures c.read_part-x.ensures c.map_of-map.ensures c.region.ensures) refl c.traced-t.ensures c.growth_bytes-bytes.ensures c.cells_after_insert-size.ensures refl
+returns c =
+    let k = c.map_in-map.ensures in
+    insert-asked (map-slot c.requires.good c.requires.map c.read_header-h.ensures c.read_part-x.ensures k.store k.cells) refl c.traced-t.ensures c.growth_bytes.ensures c.cells_after_insert-size.ensures refl

@@ -1,31 +1,16 @@
-use Rattle.collections_growth.specs.Answers.{perhaps_is}
-use Rattle.heap.proofs.ReachLaws.{located_fits}
-use Rattle.collections_maps.proofs.MapLaws.{here-good, map-epoch-fits, map-here, map-region-fits, map-scalars-fit, find_at, find-nothing, find-refused}
+use Rattle.std.proofs.lemmas.Result.{err_from_is_err_and}
+use mathlib.Core.Path.{◌≡◌, refl}
+use borrow.Author.Rules.{rules}
+use Rattle.collections_maps.proofs.MapLaws.{found-here, same_position, find-refused, find_read}
 use Rattle.collections_maps.proofs.readings.find.Goals as goal
 
-pub read_header-h-requires : goal.read_header-h-requires
-read_header-h-requires c = located_fits c.requires c.locate.ensures c.in-At.is
+pub returns-in_err-m : goal.returns-in_err-m
+returns-in_err-m c =
+    let p = err_from_is_err_and c.from_residual.result c.from_residual.ensures.1 in
+    rw (p.1, p.2) (find-refused c.args.view.now.good (c.map_at.ensures.refused _ c.in_err-m.was) refl)
 
-pub read_part-x-requires : goal.read_part-x-requires
-read_part-x-requires c = map-scalars-fit c.requires c.locate.ensures c.in-At.is
-
-pub map_of-requires : goal.map_of-requires
-map_of-requires c = search map-epoch-fits
-
-pub region-requires : goal.region-requires
-region-requires c = map-region-fits c.requires c.locate.ensures c.in-At.is c.read_header-h.ensures
-
-pub invariant_of-map : goal.invariant_of-map
-invariant_of-map c = record { good = here-good (map-here c.requires c.locate.ensures c.in-At.is c.read_header-h.ensures c.read_part-x.ensures c.map_of.ensures c.region.ensures) }
-
-pub returns-in-Refused : goal.returns-in-Refused
-unfolding perhaps_is
-returns-in-Refused c = search find-refused
-
-pub returns-in-None : goal.returns-in-None
-unfolding perhaps_is
-returns-in-None c = find-nothing (map-here c.requires c.locate.ensures c.in-At.is c.read_header-h.ensures c.read_part-x.ensures c.map_of.ensures c.region.ensures) c.traced.ensures c.find.ensures c.in-None.is
-
-pub returns-in-Some : goal.returns-in-Some
-unfolding perhaps_is
-returns-in-Some c = find_at (map-here c.requires c.locate.ensures c.in-At.is c.read_header-h.ensures c.read_part-x.ensures c.map_of.ensures c.region.ensures) c.traced.ensures c.find.ensures c.in-Some.is
+pub returns : goal.returns
+returns c =
+    let f = c.map_at.ensures.found _ c.in_ok-m.was in
+    let e : c.map.result ≡ c.find.result = same_position _ _ _ c.map.ensures.cases (λ p q h. search rules) in
+    rw e (find_read (found-here c.args.view.now.good f) c.find.result f.traced c.find.ensures)

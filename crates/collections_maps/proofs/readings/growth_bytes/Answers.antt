@@ -1,30 +1,12 @@
-use Rattle.heap.specs.Answers.{reading_is}
-use Rattle.heap.proofs.ReachLaws.{located_fits}
-use Rattle.collections_maps.proofs.MapLaws.{here-good, map-epoch-fits, map-here, map-region-fits, map-scalars-fit, growth_read, growth-refused}
+use Rattle.std.proofs.lemmas.Result.{err_from_is_err_and}
+use mathlib.Core.Path.{refl}
+use Rattle.collections_maps.proofs.MapLaws.{found-here, growth-refused, growth_read}
 use Rattle.collections_maps.proofs.readings.growth_bytes.Goals as goal
 
-pub read_header-h-requires : goal.read_header-h-requires
-read_header-h-requires c = located_fits c.requires c.locate.ensures c.in-At.is
+pub returns-in_err-m : goal.returns-in_err-m
+returns-in_err-m c =
+    let p = err_from_is_err_and c.from_residual.result c.from_residual.ensures.1 in
+    rw (p.1, p.2) (growth-refused c.args.view.now.good (c.map_at.ensures.refused _ c.in_err-m.was) refl)
 
-pub read_part-x-requires : goal.read_part-x-requires
-read_part-x-requires c = map-scalars-fit c.requires c.locate.ensures c.in-At.is
-
-pub map_of-requires : goal.map_of-requires
-map_of-requires c = search map-epoch-fits
-
-pub region-requires : goal.region-requires
-region-requires c = map-region-fits c.requires c.locate.ensures c.in-At.is c.read_header-h.ensures
-
-pub invariant_of-map : goal.invariant_of-map
-invariant_of-map c = record { good = here-good (map-here c.requires c.locate.ensures c.in-At.is c.read_header-h.ensures c.read_part-x.ensures c.map_of.ensures c.region.ensures) }
-
-pub growth_bytes-requires : goal.growth_bytes-requires
-growth_bytes-requires c = c.requires.weights.entry.1
-
-pub returns-in-Refused : goal.returns-in-Refused
-unfolding reading_is
-returns-in-Refused c = search growth-refused
-
-pub returns-in-At : goal.returns-in-At
-unfolding reading_is
-returns-in-At c = growth_read (map-here c.requires c.locate.ensures c.in-At.is c.read_header-h.ensures c.read_part-x.ensures c.map_of.ensures c.region.ensures) c.traced.ensures c.growth_bytes.ensures
+pub returns : goal.returns
+returns c = growth_read (found-here c.args.view.now.good (c.map_at.ensures.found _ c.in_ok-m.was)) (c.map_at.ensures.found _ c.in_ok-m.was).traced c.growth_bytes.ensures

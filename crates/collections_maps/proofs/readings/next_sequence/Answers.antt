@@ -1,12 +1,14 @@
-use Rattle.collections_maps.proofs.MapLaws.{map-scalars-fit, sequence_read, sequence-refused}
+use Rattle.std.proofs.lemmas.Result.{err_from_is_err_and}
+use Rattle.collections_maps.proofs.MapLaws.{map-scalars-fit, sequence-refused, sequence_read}
 use Rattle.collections_maps.proofs.readings.next_sequence.Goals as goal
 
 pub read_part-x-requires : goal.read_part-x-requires
-read_part-x-requires c =
-    map-scalars-fit c.requires c.locate.ensures c.in-At.is
+read_part-x-requires c = map-scalars-fit c.args.view.now.good c.locate.ensures c.in_ok-i.was
 
-pub returns-in-Refused : goal.returns-in-Refused
-returns-in-Refused c = search sequence-refused
+pub returns-in_err-i : goal.returns-in_err-i
+returns-in_err-i c =
+    let p = err_from_is_err_and c.from_residual.result c.from_residual.ensures.1 in
+    rw (p.1, p.2) (sequence-refused c.args.view.now.good c.locate.ensures c.in_err-i.was)
 
-pub returns-in-At : goal.returns-in-At
-returns-in-At c = search sequence_read
+pub returns : goal.returns
+returns c = sequence_read c.args.view.now.good c.locate.ensures c.in_ok-i.was c.read_part-x.ensures

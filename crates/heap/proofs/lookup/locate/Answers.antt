@@ -1,20 +1,17 @@
-use Rattle.heap.proofs.LocateLaws.{found-fits, locates_at, locates_dead, locates_nil, locates_other, locates_wrong}
+use Rattle.std.proofs.lemmas.Result.{err_from_is_err_and}
+use Rattle.heap.proofs.LocateLaws.{found-fits, locates_at, locates_missed, locates_other}
 use Rattle.heap.proofs.lookup.locate.Goals as goal
 
-pub read_header-h-requires : goal.read_header-h-requires
-read_header-h-requires c = found-fits c.find.ensures c.in-Ok.is c.requires.0 c.requires.1
+pub read_header-requires : goal.read_header-requires
+read_header-requires c = found-fits c.find.ensures c.in_ok-i.was c.requires.0 c.requires.1
 
-pub returns-then-h-kind : goal.returns-then-h-kind
-returns-then-h-kind c = locates_at c.find.ensures c.in-Ok.is c.read_header-h.ensures c.if-h-kind.true
+pub returns-in_err-i : goal.returns-in_err-i
+returns-in_err-i c =
+    let p = err_from_is_err_and c.from_residual.result c.from_residual.ensures.1 in
+    rw (p.1, p.2) (locates_missed c.find.ensures c.in_err-i.was)
 
-pub returns-in-Err-Nil : goal.returns-in-Err-Nil
-returns-in-Err-Nil c = locates_nil c.find.ensures (cc)
+pub returns-then-read_header-kind : goal.returns-then-read_header-kind
+returns-then-read_header-kind c = locates_at c.find.ensures c.in_ok-i.was c.read_header.ensures c.if-read_header-kind.true
 
-pub returns-in-Err-Dead : goal.returns-in-Err-Dead
-returns-in-Err-Dead c = locates_dead c.find.ensures (cc)
-
-pub returns-in-Err-Wrong : goal.returns-in-Err-Wrong
-returns-in-Err-Wrong c = locates_wrong c.find.ensures (cc)
-
-pub returns-else-h-kind : goal.returns-else-h-kind
-returns-else-h-kind c = locates_other c.find.ensures c.in-Ok.is c.read_header-h.ensures c.if-h-kind.false
+pub returns-else-read_header-kind : goal.returns-else-read_header-kind
+returns-else-read_header-kind c = locates_other c.find.ensures c.in_ok-i.was c.read_header.ensures c.if-read_header-kind.false

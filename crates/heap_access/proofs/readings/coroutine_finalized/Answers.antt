@@ -1,20 +1,17 @@
-use mathlib.Core.Path.{refl}
-use Rattle.model.specs.Calls as Calls
-use Rattle.model.specs.Terms.{terms, uncharged}
-use Rattle.heap.specs.Answers.{test_is}
-use Rattle.heap.proofs.KindLaws.{says_coroutine}
+use mathlib.Core.Path.{ap}
+use Rattle.model.specs.Replies.{reply, truth}
+use Rattle.heap_slots.specs.declared.CoroutineScalars.{CoroutineScalars}
+use Rattle.heap.specs.Kinds.{yes}
 use Rattle.heap.proofs.ReachLaws.{located_at, scalars_fit}
-use Rattle.heap_access.proofs.ReadingLaws.{reads_refused}
+use Rattle.heap_access.proofs.ReadingLaws.{passed_on, shown_ok}
 use Rattle.heap_access.proofs.ReadCalls.{finalized_read}
 use Rattle.heap_access.proofs.readings.coroutine_finalized.Goals as goal
 
+pub returns-in_err-i : goal.returns-in_err-i
+returns-in_err-i c = passed_on _ _ (finalized_read c.args.view.now.good c.locate.ensures) _ c.in_err-i.was c.from_residual.ensures.1
+
 pub read_part-x-requires : goal.read_part-x-requires
-read_part-x-requires c = scalars_fit c.requires (located_at c.requires c.locate.ensures c.in-At.is).reached
+read_part-x-requires c = scalars_fit c.args.view.now.good (located_at c.args.view.now.good c.locate.ensures c.in_ok-i.was).reached
 
-pub returns-in-Refused : goal.returns-in-Refused
-unfolding terms uncharged test_is
-returns-in-Refused c = reads_refused c.requires says_coroutine (Calls.coroutine_finalized _) c.locate.ensures c.in-Refused.is (λ l. refl) (λ l. refl)
-
-pub returns-in-At : goal.returns-in-At
-unfolding test_is
-returns-in-At c = finalized_read c.requires c.locate.ensures c.in-At.is c.read_part-x.ensures
+pub returns : goal.returns
+returns c = shown_ok _ _ (finalized_read c.args.view.now.good c.locate.ensures) c.in_ok-i.was (ap (λ (x : CoroutineScalars). reply (truth (yes x.finalized))) c.read_part-x.ensures)

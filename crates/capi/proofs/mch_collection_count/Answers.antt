@@ -1,0 +1,5 @@
+use Rattle.capi.proofs.Laws.{plain, reads}
+use Rattle.capi.proofs.mch_collection_count.Goals as goal
+
+pub returns : goal.returns
+returns c = reads c.lent_view-view.ensures c.collection_count.ensures (plain _ c.show.ensures) c.write_answer.ensures

@@ -1,0 +1,15 @@
+use mathlib.Core.Path.{refl, sym, ap}
+use mathlib.Core.Path.{◌∙◌}
+use Prim.Native.Nat.{ℕ}
+use Rattle.words.specs.Word.{word_of_float}
+use mathlib.Core.List.{[]}
+use Rattle.model.specs.Calls as Calls
+use Rattle.model.specs.Calls.{effect}
+use Rattle.model.specs.Terms.{terms, uncharged}
+use Rattle.model.specs.Replies.{number}
+use Rattle.capi.proofs.Laws.{plain, word-told}
+use Rattle.capi.proofs.mch_float_word.Goals as goal
+
+pub returns : goal.returns
+unfolding terms effect
+returns c = λ m. word-told m (Calls.float_word _) (number _) refl (ap (λ (x : ℕ). uncharged [] (number x)) (sym (c.from_f64.ensures ∙ ap word_of_float c.f64_from_bits_with_nan.ensures))) (plain _ c.show.ensures) c.write_answer.ensures

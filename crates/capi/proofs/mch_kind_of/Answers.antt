@@ -1,0 +1,5 @@
+use Rattle.capi.proofs.Laws.{plain, reads}
+use Rattle.capi.proofs.mch_kind_of.Goals as goal
+
+pub returns : goal.returns
+returns c = reads c.lent_view-view.ensures c.kind_of.ensures (plain _ c.show.ensures) c.write_answer.ensures

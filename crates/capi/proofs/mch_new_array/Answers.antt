@@ -1,0 +1,6 @@
+use mir.Facts.{to_z-of_z}
+use Rattle.capi.proofs.Laws.{performs}
+use Rattle.capi.proofs.mch_new_array.Goals as goal
+
+pub returns : goal.returns
+returns c = performs c.load-h.ensures c.save.ensures (rw (to_z-of_z c.ranges.length) at c.new_array-made.ensures) c.made.ensures c.write_answer.ensures

@@ -1,0 +1,5 @@
+use Rattle.capi.proofs.Laws.{performs}
+use Rattle.capi.proofs.mch_remove_at.Goals as goal
+
+pub returns : goal.returns
+returns c = performs c.load-h.ensures c.save.ensures c.remove_at-done.ensures c.answer.ensures c.write_answer.ensures

@@ -1,0 +1,5 @@
+use Rattle.capi.proofs.Laws.{keeps}
+use Rattle.capi.proofs.mch_store_key.Goals as goal
+
+pub returns : goal.returns
+returns c = keeps c.load-h.ensures c.store_key-done.ensures c.answer.ensures c.write_answer.ensures

@@ -1,0 +1,13 @@
+use native.Mathlib.Omega.{arith}
+use Rattle.script.specs.Parse.{with_words}
+use Rattle.script.proofs.TakeLaws.{list_short, list-large, words-taken}
+use Rattle.script.proofs.operands.take_words.Goals as goal
+
+pub returns-then-input-at-lt8 : goal.returns-then-input-at-lt8
+returns-then-input-at-lt8 c = λ ns. list_short 8 with_words c.missing.ensures c.if-input-at-lt8.true
+
+pub returns-then-input-start : goal.returns-then-input-start
+returns-then-input-start c = λ ns. list-large 8 with_words c.missing-then-input-start.ensures (omega arith) c.read_little-n.ensures (omega arith)
+
+pub returns : goal.returns
+returns c = λ ns. words-taken (omega arith) c.read_little-n.ensures (omega arith) c.read_words-filled.ensures
