@@ -13,6 +13,7 @@ pub struct Account {
 }
 
 // Whether a charge would be accepted, with the account afterwards: asking changes nothing.
+// Both are answered, as document 01 has it: it is no value or none.
 #[derive(Clone, Copy, Debug, PartialEq, Eq)]
 pub struct Answered {
     pub next: Account,

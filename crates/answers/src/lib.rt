@@ -22,7 +22,8 @@ use std::num::f64_to_bits_with_nan;
 use words::Raw;
 
 // What a call shows: the number of the refusal or 0, the word answered, and what is answered
-// beside it.
+// beside it. All are numbers, as C and a line have them; a refused step shows its cursor too, so it
+// is no Result.
 #[derive(Clone, Copy, Debug, PartialEq, Eq)]
 pub struct Shown {
     pub refusal: u64,

@@ -41,23 +41,26 @@ fn write_answer(answer: &mut [u64; 6], s: Shown) -> u64
 fn load_coroutine(words: &[u64; 6]) -> Coroutine
     ensures { result ≡ coroutine_in words.now }
 {
+    let [state, sequence, payload, key, result, signal] = *words;
     Coroutine {
-        state: words[0],
-        sequence: words[1],
-        payload: words[2],
-        key: words[3],
-        result: words[4],
-        signal: words[5],
+        state,
+        sequence,
+        payload,
+        key,
+        result,
+        signal,
     }
 }
 
+#[tactic(auto, using(std::proofs::lemmas::Bool::Decides::nat_tests), unfolding(crate::specs::Record::cursor_in, map_store::specs::View::last_is))]
 fn load_cursor(words: &[u64; 4]) -> Cursor
     ensures { cursor_is result ≡ cursor_in words.now }
 {
+    let [yielded, last, pos, epoch] = *words;
     Cursor {
-        last: if words[0] == 0 { None } else { Some(words[1]) },
-        pos: words[2] as usize,
-        epoch: (words[3] % 4294967296) as u32,
+        last: (yielded != 0).then_some(last),
+        pos: pos as usize,
+        epoch: (epoch % 4294967296) as u32,
     }
 }
 

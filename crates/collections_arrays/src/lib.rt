@@ -12,8 +12,9 @@ ghost use Rattle.heap.specs.Promise.{Performs};
 ghost use Rattle.heap.proofs.ReachLaws.{Target};
 ghost use Rattle.collections_arrays.specs.Arrays.{Appended, Appending, Extended, Extending, push_bytes, push_size};
 
-use collections_growth::{item, longer, zero_fits};
-use heap::{Heap, HeapView, Refusal, lookup};
+use collections_growth::item;
+use heap::{Heap, HeapView, Refusal, lookup, zero_fits};
+use heap_cells::Top;
 use heap_slots::{LEN, kinds};
 
 // The capacity of an array after a push, and the bytes that it is charged.
@@ -68,7 +69,14 @@ fn push_grown(
         cells,
     };
     let word = item(&view, t, v);
-    longer(heap, slots, scalars, list, directory, cells, i, size);
+    let top = Top {
+        cells: heap.top,
+        entries: heap.entries,
+    };
+    let most = heap.size * 2;
+    let after = heap_cells::grow(slots, heap.fresh, directory, most, top, cells, i, size);
+    heap.top = after.cells;
+    heap.entries = after.entries;
     append(slots, cells, i, word);
 }
 

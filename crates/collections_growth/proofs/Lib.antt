@@ -2,5 +2,4 @@ pub mod ReadingLaws
 pub mod RegionLaws
 pub mod EntryLaws
 pub mod ItemLaws
-pub mod ChargeLaws
 pub mod GrowthLaws

@@ -1,7 +1,5 @@
--- A map's record in its slot, items, the charge of nothing.
-use Rattle.std.specs.Prelude.{ℕ, ◌+◌, ◌≤◌, ◌<◌, ◌≡◌, Bool, List, [], length}
-use Rattle.account.specs.declared.Account.{Account}
-use Rattle.account.specs.Account.{charged, fits}
+-- A map's record in its slot, items.
+use Rattle.std.specs.Prelude.{ℕ, ◌+◌, ◌≤◌, ◌<◌, ◌≡◌, List, [], length}
 use Rattle.heap_slots.specs.declared.Header.{Header}
 use Rattle.heap_slots.specs.declared.MapScalars.{MapScalars}
 use Rattle.heap_slots.specs.Scalars.{scalars_of_map}
@@ -33,8 +31,3 @@ pub record MapIn (c : List ℕ) (h : Header) (x : MapScalars) (m : Map) : Type 0
 -- "push into, pop from and iteration over dynamic items dereference"
 pub record ItemIs (t : State) (type w r : ℕ) : Type 0 where
   pub is : (l : Layout) → item (view_of (model_of l t)) type w ≡ r
-
--- "zero bytes is a charge too": whether it is accepted; the account stays
-pub record ZeroCharge (a : Account) (r : Bool) : Type 0 where
-  pub is : r ≡ fits a 0
-  pub same : a ≡ charged a 0

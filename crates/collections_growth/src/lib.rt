@@ -1,5 +1,4 @@
-// What arrays, maps and iterators share: a map's record in its slot, items, the charge of nothing, a
-// region that grows.
+// What arrays, maps and iterators share: a map's record in its slot, items, a region that grows.
 #![tactic(auto)]
 
 ghost use Rattle.std.specs.Prelude.{◌≡◌, ◌+◌, ◌≤◌, ◌<◌, length};
@@ -7,10 +6,9 @@ ghost use Rattle.heap_cells.specs.Regions.{region_of};
 ghost use Rattle.heap.specs.State.{state};
 ghost use Rattle.heap.specs.Good.{Good};
 ghost use Rattle.heap.specs.View.{held};
-ghost use Rattle.collections_growth.specs.Words.{map_from, ItemIs, MapIn, MapKnown, ZeroCharge};
+ghost use Rattle.collections_growth.specs.Words.{map_from, ItemIs, MapIn, MapKnown};
 ghost use Rattle.collections_growth.specs.Growth.{Lengthening, Longer};
 
-use account::Account;
 use heap::{Heap, HeapView};
 use heap_cells::Top;
 use heap_slots::{Header, MapScalars};
@@ -20,16 +18,13 @@ use map_store::{Map, MapStore};
 const DYNAMIC: u64 = 2;
 
 // The map of a slot with this header and these scalars.
+#[tactic(auto, using(std::proofs::lemmas::Bool::Decides::nat_tests))]
 pub fn map_of(h: Header, x: MapScalars) -> MapStore
     requires { x.epoch < 4294967296 }
     ensures { result ≡ map_from h x }
 {
     MapStore {
-        noted: if x.known == 0 {
-            None
-        } else {
-            Some(words::signed_of(x.noted))
-        },
+        noted: (x.known != 0).then_some(words::signed_of(x.noted)),
         len: h.len as usize,
         live: x.live as usize,
         fresh: x.next,
@@ -70,13 +65,6 @@ pub fn item(view: &HeapView<'_>, t: u64, w: u64) -> u64
     } else {
         w
     }
-}
-
-// "Zero bytes is a charge too": refused where used exceeds the limit, and it changes nothing.
-pub fn zero_fits(account: Account) -> bool
-    ensures { ZeroCharge account result }
-{
-    account.used <= account.limit
 }
 
 // The region of slot i made `size` cells long, not shorter than it is. The record keeps its account

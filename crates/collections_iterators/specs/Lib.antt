@@ -1,3 +1,4 @@
 pub mod Answers
 pub mod Beginning
 pub mod Visits
+pub mod Reading

@@ -15,6 +15,7 @@ ghost use Rattle.collections_growth.specs.Answers.{perhaps_is};
 ghost use Rattle.collections_growth.specs.Words.{MapKnown};
 ghost use Rattle.collections_iterators.specs.Answers.{cursor_seen};
 ghost use Rattle.collections_iterators.specs.Beginning.{Begins};
+ghost use Rattle.collections_iterators.specs.Reading.{IteratorAt};
 ghost use Rattle.collections_iterators.specs.Visits.{ArrayKnown, Ends, Moves, VisitsArray, VisitsMap, Visits};
 
 use collections_growth::{item, map_in};
@@ -28,6 +29,13 @@ use map_store::Cursor;
 pub enum CursorAt {
     Index(u64),
     Map(Cursor),
+}
+
+// What an iterator's slot holds.
+#[derive(Clone, Copy)]
+struct IteratorRead {
+    header: Header,
+    scalars: IteratorScalars,
 }
 
 // An iterator's step: the scalars afterwards, and the item that it visits, if it has not come to the
@@ -138,37 +146,43 @@ fn advance(view: &HeapView<'_>, source: u64, x: IteratorScalars) -> Visit
     }
 }
 
+// The iterator that a word reaches.
+fn iterator_at(view: &HeapView<'_>, w: u64) -> Result<IteratorRead, Refusal>
+    ensures { IteratorAt (held view.now) w result }
+{
+    let i = lookup::locate(view.slots, view.heap.fresh, w, kinds::ITERATOR)?;
+    Ok(IteratorRead {
+        header: heap_slots::read_header(view.slots, i),
+        scalars: heap_slots::read_part(view.scalars, i),
+    })
+}
+
 // The word of the array or map that an iterator goes over.
 pub fn iter_source(view: &HeapView<'_>, w: u64) -> Result<u64, Refusal>
     ensures { Reads (Calls.iter_source w) (held view.now) (reading_is result) }
 {
-    let i = lookup::locate(view.slots, view.heap.fresh, w, kinds::ITERATOR)?;
-    Ok(heap_slots::read_header(view.slots, i).value)
+    Ok(iterator_at(view, w)?.header.value)
 }
 
 // The type of an iterator's keys.
 pub fn iter_key_type(view: &HeapView<'_>, w: u64) -> Result<u64, Refusal>
     ensures { Reads (Calls.iter_key_type w) (held view.now) (reading_is result) }
 {
-    let i = lookup::locate(view.slots, view.heap.fresh, w, kinds::ITERATOR)?;
-    Ok(heap_slots::read_header(view.slots, i).mode)
+    Ok(iterator_at(view, w)?.header.mode)
 }
 
 // Whether an iterator has ended.
 pub fn iter_ended(view: &HeapView<'_>, w: u64) -> Result<bool, Refusal>
     ensures { Reads (Calls.iter_ended w) (held view.now) (test_is result) }
 {
-    let i = lookup::locate(view.slots, view.heap.fresh, w, kinds::ITERATOR)?;
-    let x: IteratorScalars = heap_slots::read_part(view.scalars, i);
-    Ok(x.ended != 0)
+    Ok(iterator_at(view, w)?.scalars.ended != 0)
 }
 
 // The key of the item visited last.
 pub fn iter_key(view: &HeapView<'_>, w: u64) -> Result<Option<u64>, Refusal>
     ensures { Reads (Calls.iter_key w) (held view.now) (perhaps_is result) }
 {
-    let i = lookup::locate(view.slots, view.heap.fresh, w, kinds::ITERATOR)?;
-    let x: IteratorScalars = heap_slots::read_part(view.scalars, i);
+    let x = iterator_at(view, w)?.scalars;
     if x.keyed == 0 {
         Ok(None)
     } else {
@@ -180,13 +194,11 @@ pub fn iter_key(view: &HeapView<'_>, w: u64) -> Result<Option<u64>, Refusal>
 pub fn iter_cursor(view: &HeapView<'_>, w: u64) -> Result<CursorAt, Refusal>
     ensures { Reads (Calls.iter_cursor w) (held view.now) (cursor_seen result) }
 {
-    let i = lookup::locate(view.slots, view.heap.fresh, w, kinds::ITERATOR)?;
-    let x: IteratorScalars = heap_slots::read_part(view.scalars, i);
-    let source = heap_slots::read_header(view.slots, i).value;
-    if lookup::row_at(view.slots, view.heap.fresh, source) == kinds::ARRAY {
-        Ok(CursorAt::Index(x.position))
+    let p = iterator_at(view, w)?;
+    if lookup::row_at(view.slots, view.heap.fresh, p.header.value) == kinds::ARRAY {
+        Ok(CursorAt::Index(p.scalars.position))
     } else {
-        Ok(CursorAt::Map(cursor_of(x)))
+        Ok(CursorAt::Map(cursor_of(p.scalars)))
     }
 }
 

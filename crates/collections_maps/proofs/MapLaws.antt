@@ -1,6 +1,8 @@
 -- Readings of a map. Assumes nothing.
 use native.Mathlib.Omega.{arith}
 use Rattle.std.proofs.Common.{Result, Ok, Err, Some, None}
+use Rattle.std.specs.Result.{IsErrAnd, result_map_both}
+use Rattle.std.proofs.lemmas.Result.{err_from_is_err_and}
 use Prim.Native.Nat.{ℕ, ◌+◌, ◌*◌, ◌/◌, ◌≤◌, ◌<◌}
 use mathlib.Core.Path.{◌≡◌, refl, ap, sym, ◌∙◌}
 use mathlib.Core.Bool.{Bool}
@@ -18,38 +20,40 @@ use Rattle.layout.specs.Layout.{Layout, is_traced}
 use Rattle.map_store.specs.Store as Maps
 use Rattle.map_store.specs.Entries.{length_entries}
 use Rattle.map_store.specs.Map as Map
-use Rattle.map_store.specs.View.{cursor_is, entry_answer, stored_entry, got_is, next_is, noted_of, position, step_is, store_of}
+use Rattle.map_store.specs.View.{cursor_is, entry_answer, got_is, next_is, position, step_is, store_of}
 use Rattle.map_store.specs.View as View
 use Rattle.std.specs.Prelude as Prelude
 use Rattle.map_store.specs.declared.MapStore.{MapStore}
 use Rattle.map_store.specs.declared.Stepped.{Stepped}
 use Rattle.map_store.specs.declared.Stored.{Stored}
 use Rattle.model.specs.Calls as Calls
-use Rattle.model.specs.Calls.{effect}
-use Rattle.model.specs.Replies.{cursor_at, entry_is, next_integer, noted, number, perhaps, truth}
+use Rattle.model.specs.Calls.{Call, effect}
+use Rattle.model.specs.Replies.{Answer, Reply, cursor_at, entry_is, next_integer, noted, number, perhaps, reply, truth}
 use Rattle.model.specs.Slots as Slots
 use Rattle.model.specs.Refusals.{inside}
-use Rattle.model.specs.Terms.{growth, key_traced, map_store, terms, uncharged}
+use Rattle.model.specs.Terms.{a_map, growth, key_traced, map_store, terms, uncharged}
 use Rattle.heap.proofs.GoodLaws.{holds_as}
 use Rattle.heap.specs.declared.Refusal.{Refusal}
 use Rattle.heap.specs.declared.Refusal.TheVariants as No
-use Rattle.heap.specs.Answers.{reading_is, seen_by, test_is}
+use Rattle.heap.specs.Answers.{reading_is, seen_by}
 use Rattle.heap.specs.Kinds.{yes}
-use Rattle.heap.specs.Locating.{Locates}
+use Rattle.heap.specs.Locating.{Locates, located_in}
 use Rattle.heap.specs.State.{State, model_of, more_of, raw_of}
 use Rattle.heap.specs.Good.{Good}
 use Rattle.heap.specs.Promise.{Reads}
 use Rattle.heap.proofs.KindLaws.{room-map, says_map}
+use Rattle.heap.proofs.LocateLaws.{locates_so}
 use Rattle.heap.proofs.ReachLaws.{Target, located_at, reached-room, scalars_fit}
 use Rattle.heap.proofs.ReadLaws.{object-answered, object-inside, object-outside, object-refused, reads_key_traced, reads_map, reads_map_store}
 use Rattle.collections_maps.specs.Changes.{IsMap}
-use Rattle.collections_maps.specs.Reading.{Found, MapAt}
+use Rattle.collections_maps.specs.Reading.{Found, MapAt, PartsOfMap, parts_in}
 use Rattle.std.specs.Option.{ok_or}
 use Rattle.std.proofs.Common.{MatchOption, IsSomeAnd}
 use Rattle.collections_maps.specs.declared.MapRead.{MapRead}
+use Rattle.collections_maps.specs.declared.readings.MapParts.{MapParts}
 use Rattle.map_store.specs.declared.reading.Map as MapType
 use Rattle.collections_growth.specs.Words.{MapIn, MapKnown, map_from}
-use Rattle.collections_growth.proofs.ReadingLaws.{row-answered, row-refused}
+use Rattle.collections_growth.proofs.ReadingLaws.{Row, row-answered, row-refused}
 use Rattle.collections_maps.specs.Answers.{entry_seen, lent_seen, next_seen, noted_seen, step_seen}
 use Rattle.collections_growth.specs.Answers.{perhaps_is}
 use Rattle.collections_growth.proofs.EntryLaws.{entry_beyond, entry-inside}
@@ -222,86 +226,76 @@ module _ {t : State} {w : ℕ} {r : Result ℕ Refusal} (g : Good t) (d : Locate
         refused = λ q x. absurd (let z : ◌≡◌ {A = ℕ} 0 1 = cc in omega arith);
       }
 
--- ---- one number of a map that is located
+-- ---- what the slot of the map that w reaches holds, or the refusal
 
-module _ {t : State} {w i : ℕ} {r : Result ℕ Refusal} (g : Good t) (d : Locates t.slots t.heap.fresh w 7 r) (e : r ≡ Ok i) where
-  module _ {x : MapScalars} (p : x ≡ map_part (scalars_at t.scalars i)) where
-    pub live_read : Reads (Calls.live_count w) t (reading_is (Ok x.live))
-    unfolding terms effect uncharged seen_by
-    live_read = row-answered g record { effect_is = λ l. refl; terms_are = λ l. refl } says_map (located_at g d e) (λ l. ap number (map-living g (located_at g d e) l ∙ rw p))
+module _ {t : State} {w : ℕ} {r : Result ℕ Refusal} (d : Locates t.slots t.heap.fresh w 7 r) where
+  pub parts-found : {i : ℕ} {h : Header} {x : MapScalars} → r ≡ Ok i → h ≡ header_at t.slots i → x ≡ map_part (scalars_at t.scalars i) → PartsOfMap t w (Ok record { header = h; scalars = x })
+  parts-found e a b = record { is = rw (sym d.is ∙ e, a, b) }
 
-    pub key-type_read : Reads (Calls.key_type w) t (reading_is (Ok x.keys))
-    unfolding terms effect uncharged seen_by
-    key-type_read = row-answered g record { effect_is = λ l. refl; terms_are = λ l. refl } says_map (located_at g d e) (λ l. ap number (reads_map l 0 (λ m. m.key_type) (located_at g d e) ∙ rw p))
+  -- where `?` passes the refusal on
+  pub parts-missed : {q : Refusal} {x : Result MapParts Refusal} → r ≡ Err q → IsErrAnd x (λ e. e ≡ q) → PartsOfMap t w x
+  parts-missed {x = x} e h = let p = err_from_is_err_and x h in rw (p.1, p.2) record { is = rw (sym d.is ∙ e) }
 
-    pub value-type_read : Reads (Calls.value_type w) t (reading_is (Ok x.values))
-    unfolding terms effect uncharged seen_by
-    value-type_read = row-answered g record { effect_is = λ l. refl; terms_are = λ l. refl } says_map (located_at g d e) (λ l. ap number (reads_map l 0 (λ m. m.value_type) (located_at g d e) ∙ rw p))
+module _ {t : State} {w : ℕ} {x : Result MapParts Refusal} (g : Good t) (d : PartsOfMap t w x) where
+  -- what is said of it, where that is what the call answers
+  parts-read : {k : Call} (says : MapParts → Reply) → Row t k a_map w → ((l : Layout) (i : ℕ) → Target t w i 7 → (terms (model_of l t) k).answer ≡ says (parts_in t i)) → Reads k t (seen_by (λ m. reply (says m)) x)
+  parts-read {k = k} says row h = rw d.is (go (located_in t.slots t.heap.fresh w 7) refl)
+    where
+      go : (z : Result ℕ Refusal) → located_in t.slots t.heap.fresh w 7 ≡ z → Reads k t (seen_by (λ m. reply (says m)) (result_map_both (parts_in t) (λ q. q) z))
+      go (Ok i) e = unfold seen_by in (let o = located_at g (locates_so refl) e in row-answered g row says_map o (λ l. h l i o))
+      go (Err q) e = unfold seen_by in row-refused g row says_map (locates_so refl) e
 
-    pub epoch_read : Reads (Calls.map_epoch w) t (reading_is (Ok x.epoch))
-    unfolding terms effect uncharged seen_by
-    epoch_read = row-answered g record { effect_is = λ l. refl; terms_are = λ l. refl } says_map (located_at g d e) (λ l. ap number (ap (λ (s : Maps.Store). s.epoch) (reads_map_store l (located_at g d e)) ∙ rw p))
+  pub live_read : Reads (Calls.live_count w) t (seen_by (λ m. reply (number m.scalars.live)) x)
+  unfolding terms effect uncharged
+  live_read = parts-read (λ m. number m.scalars.live) record { effect_is = λ l. refl; terms_are = λ l. refl } (λ l i o. ap number (map-living g o l))
 
-    pub sequence_read : Reads (Calls.next_sequence w) t (reading_is (Ok x.next))
-    unfolding terms effect uncharged seen_by
-    sequence_read = row-answered g record { effect_is = λ l. refl; terms_are = λ l. refl } says_map (located_at g d e) (λ l. ap number (ap (λ (s : Maps.Store). s.next_seq) (reads_map_store l (located_at g d e)) ∙ rw p))
+  pub key-type_read : Reads (Calls.key_type w) t (seen_by (λ m. reply (number m.scalars.keys)) x)
+  unfolding terms effect uncharged
+  key-type_read = parts-read (λ m. number m.scalars.keys) record { effect_is = λ l. refl; terms_are = λ l. refl } (λ l i o. ap number (reads_map l 0 (λ m. m.key_type) o))
 
-    pub hashed_read : Reads (Calls.is_hashed w) t (test_is (Ok (yes x.hashed)))
-    unfolding terms effect uncharged seen_by
-    hashed_read = row-answered g record { effect_is = λ l. refl; terms_are = λ l. refl } says_map (located_at g d e) (λ l. ap truth (ap (λ (s : Maps.Store). s.hashed) (reads_map_store l (located_at g d e)) ∙ rw p))
+  pub value-type_read : Reads (Calls.value_type w) t (seen_by (λ m. reply (number m.scalars.values)) x)
+  unfolding terms effect uncharged
+  value-type_read = parts-read (λ m. number m.scalars.values) record { effect_is = λ l. refl; terms_are = λ l. refl } (λ l i o. ap number (reads_map l 0 (λ m. m.value_type) o))
 
-  module _ {h : Header} (p : h ≡ header_at t.slots i) where
-    pub places_read : Reads (Calls.place_count w) t (reading_is (Ok h.len))
-    unfolding terms effect uncharged seen_by raw_at
-    places_read = row-answered g record { effect_is = λ l. refl; terms_are = λ l. refl } says_map (located_at g d e) (λ l. ap number (map-places g (located_at g d e) l ∙ rw p))
+  pub epoch_read : Reads (Calls.map_epoch w) t (seen_by (λ m. reply (number m.scalars.epoch)) x)
+  unfolding terms effect uncharged
+  epoch_read = parts-read (λ m. number m.scalars.epoch) record { effect_is = λ l. refl; terms_are = λ l. refl } (λ l i o. ap number (ap (λ (s : Maps.Store). s.epoch) (reads_map_store l o)))
 
-    pub capacity_read : Reads (Calls.entry_capacity w) t (reading_is (Ok h.value))
-    unfolding terms effect uncharged seen_by raw_at
-    capacity_read = row-answered g record { effect_is = λ l. refl; terms_are = λ l. refl } says_map (located_at g d e) (λ l. ap number (ap (λ (q : Maps.Room). q.capacity) (map_room g (located_at g d e) l) ∙ rw p))
+  pub sequence_read : Reads (Calls.next_sequence w) t (seen_by (λ m. reply (number m.scalars.next)) x)
+  unfolding terms effect uncharged
+  sequence_read = parts-read (λ m. number m.scalars.next) record { effect_is = λ l. refl; terms_are = λ l. refl } (λ l i o. ap number (ap (λ (s : Maps.Store). s.next_seq) (reads_map_store l o)))
 
-    pub index_read : Reads (Calls.index_length w) t (reading_is (Ok h.mode))
-    unfolding terms effect uncharged seen_by raw_at
-    index_read = row-answered g record { effect_is = λ l. refl; terms_are = λ l. refl } says_map (located_at g d e) (λ l. ap number (ap (λ (q : Maps.Room). q.index) (map_room g (located_at g d e) l) ∙ rw p))
+  pub places_read : Reads (Calls.place_count w) t (seen_by (λ m. reply (number m.header.len)) x)
+  unfolding terms effect uncharged raw_at
+  places_read = parts-read (λ m. number m.header.len) record { effect_is = λ l. refl; terms_are = λ l. refl } (λ l i o. ap number (map-places g o l))
+
+  pub capacity_read : Reads (Calls.entry_capacity w) t (seen_by (λ m. reply (number m.header.value)) x)
+  unfolding terms effect uncharged raw_at
+  capacity_read = parts-read (λ m. number m.header.value) record { effect_is = λ l. refl; terms_are = λ l. refl } (λ l i o. ap number (ap (λ (q : Maps.Room). q.capacity) (map_room g o l)))
+
+  pub index_read : Reads (Calls.index_length w) t (seen_by (λ m. reply (number m.header.mode)) x)
+  unfolding terms effect uncharged raw_at
+  index_read = parts-read (λ m. number m.header.mode) record { effect_is = λ l. refl; terms_are = λ l. refl } (λ l i o. ap number (ap (λ (q : Maps.Room). q.index) (map_room g o l)))
+
+  pub hashed_read : Reads (Calls.is_hashed w) t (seen_by (λ m. reply (truth (yes m.scalars.hashed))) x)
+  unfolding terms effect uncharged
+  hashed_read = parts-read (λ m. truth (yes m.scalars.hashed)) record { effect_is = λ l. refl; terms_are = λ l. refl } (λ l i o. ap truth (ap (λ (s : Maps.Store). s.hashed) (reads_map_store l o)))
+
+-- ---- the exits of a call that shows what another found
+
+module _ {t : State} {k : Call} {B C : Type 0} (f : B → Answer) (says : C → Answer) {x : Result B Refusal} (d : Reads k t (seen_by f x)) where
+  pub shown-ok : {b : B} {c : C} → x ≡ Ok b → says c ≡ f b → Reads k t (seen_by says (Ok c))
+  unfolding seen_by
+  shown-ok e p = rw p (rw e at d)
+
+  -- where `?` passes the refusal on
+  pub passed-on : {q : Refusal} (r : Result C Refusal) → x ≡ Err q → IsErrAnd r (λ e. e ≡ q) → Reads k t (seen_by says r)
+  unfolding seen_by
+  passed-on r e h = let p = err_from_is_err_and r h in rw (p.1, p.2) (rw e at d)
 
 -- ---- 1, 11 and 2
 
 module _ {t : State} {w : ℕ} {r : Result ℕ Refusal} {q : Refusal} (g : Good t) (d : Locates t.slots t.heap.fresh w 7 r) (e : r ≡ Err q) where
-  pub live-refused : Reads (Calls.live_count w) t (reading_is (Err q))
-  unfolding terms effect uncharged seen_by
-  live-refused = row-refused g record { effect_is = λ l. refl; terms_are = λ l. refl } says_map d e
-
-  pub places-refused : Reads (Calls.place_count w) t (reading_is (Err q))
-  unfolding terms effect uncharged seen_by
-  places-refused = row-refused g record { effect_is = λ l. refl; terms_are = λ l. refl } says_map d e
-
-  pub hashed-refused : Reads (Calls.is_hashed w) t (test_is (Err q))
-  unfolding terms effect uncharged seen_by
-  hashed-refused = row-refused g record { effect_is = λ l. refl; terms_are = λ l. refl } says_map d e
-
-  pub key-type-refused : Reads (Calls.key_type w) t (reading_is (Err q))
-  unfolding terms effect uncharged seen_by
-  key-type-refused = row-refused g record { effect_is = λ l. refl; terms_are = λ l. refl } says_map d e
-
-  pub value-type-refused : Reads (Calls.value_type w) t (reading_is (Err q))
-  unfolding terms effect uncharged seen_by
-  value-type-refused = row-refused g record { effect_is = λ l. refl; terms_are = λ l. refl } says_map d e
-
-  pub epoch-refused : Reads (Calls.map_epoch w) t (reading_is (Err q))
-  unfolding terms effect uncharged seen_by
-  epoch-refused = row-refused g record { effect_is = λ l. refl; terms_are = λ l. refl } says_map d e
-
-  pub sequence-refused : Reads (Calls.next_sequence w) t (reading_is (Err q))
-  unfolding terms effect uncharged seen_by
-  sequence-refused = row-refused g record { effect_is = λ l. refl; terms_are = λ l. refl } says_map d e
-
-  pub capacity-refused : Reads (Calls.entry_capacity w) t (reading_is (Err q))
-  unfolding terms effect uncharged seen_by
-  capacity-refused = row-refused g record { effect_is = λ l. refl; terms_are = λ l. refl } says_map d e
-
-  pub index-refused : Reads (Calls.index_length w) t (reading_is (Err q))
-  unfolding terms effect uncharged seen_by
-  index-refused = row-refused g record { effect_is = λ l. refl; terms_are = λ l. refl } says_map d e
-
   pub find-refused : {hash key : ℕ} → Reads (Calls.find w hash key) t (perhaps_is (Err q))
   unfolding terms effect uncharged seen_by
   find-refused = row-refused g record { effect_is = λ l. refl; terms_are = λ l. refl } says_map d e

@@ -17,8 +17,8 @@ ghost use Rattle.heap.specs.Kinds.{noted_from};
 ghost use Rattle.collections_maps.specs.Changes.{Inserting, Removing, RemovingKey, InRegion, IsMap, InsertAsks, Inserts, Ready, RemoveAsks, Removes, Rewritten, cells_at, room_after, room_without, room_without_key};
 
 use crate::readings;
-use collections_growth::{longer, map_in, map_of, zero_fits};
-use heap::{Heap, Refusal, lookup};
+use collections_growth::{longer, map_in, map_of};
+use heap::{Heap, Refusal, lookup, zero_fits};
 use heap_allocation::making;
 use heap_slots::{Header, MapScalars, Scalars, kinds};
 use map_store::MapStore;

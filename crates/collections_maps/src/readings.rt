@@ -7,11 +7,19 @@ ghost use Rattle.heap.specs.Promise.{Reads};
 ghost use Rattle.heap.specs.View.{held};
 ghost use Rattle.collections_growth.specs.Answers.{perhaps_is};
 ghost use Rattle.collections_maps.specs.Answers.{entry_seen, next_seen, noted_seen};
+ghost use Rattle.collections_maps.specs.Reading.{PartsOfMap};
 
 use crate::map_at;
 use heap::{HeapView, Refusal, lookup};
-use heap_slots::{MapScalars, kinds};
+use heap_slots::{Header, MapScalars, kinds};
 use map_store::Stored;
+
+// What a map's slot holds.
+#[derive(Clone, Copy)]
+struct MapParts {
+    header: Header,
+    scalars: MapScalars,
+}
 
 pub fn traced(t: u64) -> bool
     ensures { result ≡ is_traced t }
@@ -19,82 +27,78 @@ pub fn traced(t: u64) -> bool
     1 <= t
 }
 
+// The header and the scalars of the map that a word reaches.
+fn map_parts(view: &HeapView<'_>, w: u64) -> Result<MapParts, Refusal>
+    ensures { PartsOfMap (held view.now) w result }
+{
+    let i = lookup::locate(view.slots, view.heap.fresh, w, kinds::MAP)?;
+    Ok(MapParts {
+        header: heap_slots::read_header(view.slots, i),
+        scalars: heap_slots::read_part(view.scalars, i),
+    })
+}
+
 // Live entries.
 pub fn live_count(view: &HeapView<'_>, w: u64) -> Result<u64, Refusal>
     ensures { Reads (Calls.live_count w) (held view.now) (reading_is result) }
 {
-    let i = lookup::locate(view.slots, view.heap.fresh, w, kinds::MAP)?;
-    let x: MapScalars = heap_slots::read_part(view.scalars, i);
-    Ok(x.live)
+    Ok(map_parts(view, w)?.scalars.live)
 }
 
 // Places, dead ones included.
 pub fn place_count(view: &HeapView<'_>, w: u64) -> Result<u64, Refusal>
     ensures { Reads (Calls.place_count w) (held view.now) (reading_is result) }
 {
-    let i = lookup::locate(view.slots, view.heap.fresh, w, kinds::MAP)?;
-    Ok(heap_slots::read_header(view.slots, i).len)
+    Ok(map_parts(view, w)?.header.len)
 }
 
 // Whether a map is hashed.
 pub fn is_hashed(view: &HeapView<'_>, w: u64) -> Result<bool, Refusal>
     ensures { Reads (Calls.is_hashed w) (held view.now) (test_is result) }
 {
-    let i = lookup::locate(view.slots, view.heap.fresh, w, kinds::MAP)?;
-    let x: MapScalars = heap_slots::read_part(view.scalars, i);
-    Ok(x.hashed != 0)
+    Ok(map_parts(view, w)?.scalars.hashed != 0)
 }
 
 // The type of a map's keys.
 pub fn key_type(view: &HeapView<'_>, w: u64) -> Result<u64, Refusal>
     ensures { Reads (Calls.key_type w) (held view.now) (reading_is result) }
 {
-    let i = lookup::locate(view.slots, view.heap.fresh, w, kinds::MAP)?;
-    let x: MapScalars = heap_slots::read_part(view.scalars, i);
-    Ok(x.keys)
+    Ok(map_parts(view, w)?.scalars.keys)
 }
 
 // The type of its values.
 pub fn value_type(view: &HeapView<'_>, w: u64) -> Result<u64, Refusal>
     ensures { Reads (Calls.value_type w) (held view.now) (reading_is result) }
 {
-    let i = lookup::locate(view.slots, view.heap.fresh, w, kinds::MAP)?;
-    let x: MapScalars = heap_slots::read_part(view.scalars, i);
-    Ok(x.values)
+    Ok(map_parts(view, w)?.scalars.values)
 }
 
 // A map's epoch: how often it was compacted, in 32 bits.
 pub fn map_epoch(view: &HeapView<'_>, w: u64) -> Result<u64, Refusal>
     ensures { Reads (Calls.map_epoch w) (held view.now) (reading_is result) }
 {
-    let i = lookup::locate(view.slots, view.heap.fresh, w, kinds::MAP)?;
-    let x: MapScalars = heap_slots::read_part(view.scalars, i);
-    Ok(x.epoch)
+    Ok(map_parts(view, w)?.scalars.epoch)
 }
 
 // The next entry's sequence number.
 pub fn next_sequence(view: &HeapView<'_>, w: u64) -> Result<u64, Refusal>
     ensures { Reads (Calls.next_sequence w) (held view.now) (reading_is result) }
 {
-    let i = lookup::locate(view.slots, view.heap.fresh, w, kinds::MAP)?;
-    let x: MapScalars = heap_slots::read_part(view.scalars, i);
-    Ok(x.next)
+    Ok(map_parts(view, w)?.scalars.next)
 }
 
 // The capacity of a map's entry list.
 pub fn entry_capacity(view: &HeapView<'_>, w: u64) -> Result<u64, Refusal>
     ensures { Reads (Calls.entry_capacity w) (held view.now) (reading_is result) }
 {
-    let i = lookup::locate(view.slots, view.heap.fresh, w, kinds::MAP)?;
-    Ok(heap_slots::read_header(view.slots, i).value)
+    Ok(map_parts(view, w)?.header.value)
 }
 
 // The length of its index.
 pub fn index_length(view: &HeapView<'_>, w: u64) -> Result<u64, Refusal>
     ensures { Reads (Calls.index_length w) (held view.now) (reading_is result) }
 {
-    let i = lookup::locate(view.slots, view.heap.fresh, w, kinds::MAP)?;
-    Ok(heap_slots::read_header(view.slots, i).mode)
+    Ok(map_parts(view, w)?.header.mode)
 }
 
 // A map's greatest noted key.

@@ -49,6 +49,7 @@ fn weigh(h: Header, scalars: &[u64], i: usize, w: Weights) -> u64
     ensures { result ≡ weight_at w h (frames_at scalars.now i) }
 {
     let kind = h.kind;
+    // A kind is a word of a slot: its weight is a row here.
     match kind {
         kinds::STRING => w.slot + h.len,
         kinds::ARRAY => w.slot + 8 * h.size,
@@ -153,7 +154,8 @@ pub struct Ending {
     pub listed: usize,
 }
 
-// Marks what is kept, lists and finalizes F, frees the others, and undoes the marks.
+// Marks what is kept, lists and finalizes F, frees the others, and undoes the marks. Of the heap's
+// record it takes what its clauses name.
 fn collect_slots(
     fresh: usize,
     free: u64,

@@ -5,19 +5,19 @@ use mathlib.Core.List.{List, [], ◌∷◌, ◌++◌, append-nil, append_assoc}
 use Prim.Native.Nat.{ℕ, zero, suc, ◌+◌, ◌-◌, ◌*◌, ◌%◌, ◌≤◌, ◌<◌}
 use native.Mathlib.Omega.{arith}
 use native.Mathlib.Numerals.{add-one}
-use lib.ListN.{length, get_or, set, take, drop, length-set, take-append-drop}
+use lib.ListN.{length, get_or, set, take, drop, length-set, take-append-drop, drop_of_length-le}
 use lib.Seq.{drop-set-lt, take-suc-set, drop-cons}
+use Rattle.std.specs.List.{filter, range_with_len}
 use borrow.Author.Tests.{eq-eqb, ne_eqb}
 use Rattle.heap_slots.specs.Limits.{SLOT_WORDS, SPAN}
 use Rattle.heap_slots.specs.Header.{header_at}
 use Rattle.heap_slots.specs.declared.Header.{Header}
 use Rattle.heap_slots.proofs.Cases.{by_cases, same_or_not}
 use Rattle.heap_cells.specs.Regions.{sum_to}
-use Rattle.model.specs.Replies.{written}
 use Rattle.heap.specs.Good.{coroutine_of, coroutines_in}
 use Rattle.collector_marking.specs.Children.{word_at}
 use Rattle.collector_marking.proofs.Doing.{drop-onward}
-use Rattle.collector_finalizing.specs.Dropped.{waits, is_dropped, sieve, dropped_slots, finalized_in, Fills}
+use Rattle.collector_finalizing.specs.Dropped.{waits, is_dropped, sieve, dropped_slots, finalized_in}
 
 -- ---- one slot
 
@@ -58,6 +58,15 @@ module _ (P : ℕ → Bool) (word : ℕ → ℕ) where
   pub sieve-end : (n i : ℕ) → n ≤ i → sieve P word (n - i) i ≡ []
   unfolding sieve
   sieve-end n i l = let e : n - i ≡ 0 = omega arith in rw e
+
+  pub sieve-count : (f i : ℕ) → length (filter P (range_with_len i f)) ≡ length (sieve P word f i)
+  unfolding sieve
+  sieve-count zero i = refl
+  sieve-count (suc f) i = go (P i) (rw add-one (sieve-count f (suc i)))
+    where
+      go : (b : Bool) → length (filter P (range_with_len (i + 1) f)) ≡ length (sieve P word f (suc i)) → length (cond b (i ∷ filter P (range_with_len (i + 1) f)) (filter P (range_with_len (i + 1) f))) ≡ length (cond b (word i ∷ sieve P word f (suc i)) (sieve P word f (suc i)))
+      go true e = ap suc e
+      go false e = e
 
   -- counting: what is left comes to the whole
   pub record Counting (n i k : ℕ) : Type 0 where
@@ -106,12 +115,12 @@ module _ (P : ℕ → Bool) (word : ℕ → ℕ) where
     pub filling_passed : i < n → P i ≡ false → Filling n p₀ p (i + 1) k
     filling_passed l e = record { counted = counting_passed v.counted l e; room = v.room; len = v.len; done = rw (sieve-passed n i l e) at v.done; rest = v.rest }
 
-    pub filling_end : n ≤ i → Fills (sieve P word n 0) p₀ p
-    unfolding written
-    filling_end l =
+    pub filling_end : n ≤ i → length p₀ ≡ length (sieve P word n 0) → p ≡ sieve P word n 0
+    filling_end l whole =
         let e : take k p ≡ sieve P word n 0 = sym (append-nil (take k p)) ∙ (rw (sieve-end n i l) at v.done) in
         let c : k ≡ length (sieve P word n 0) = counting_end v.counted l in
-        record { is = sym (take-append-drop k p) ∙ rw (e, v.rest, c) }
+        let few : length p₀ ≤ k = omega arith in
+        sym (take-append-drop k p) ∙ rw (v.rest, drop_of_length-le p₀ few, append-nil) e
 
 -- ---- no coroutines
 
@@ -153,4 +162,4 @@ finalizing_step {ws} {x₀} {x} {i} v l = record { at = omega arith; len = lengt
 
 pub finalizing_end : {ws x₀ x : List ℕ} {i : ℕ} → Finalizing ws x₀ x i → length ws ≤ i → x ≡ finalized_in ws x₀
 unfolding finalized_in
-finalizing_end {ws} {x₀} {x} {i} v l = rw (lib.ListN.drop_of_length-le ws l) at v.left
+finalizing_end {ws} {x₀} {x} {i} v l = rw (drop_of_length-le ws l) at v.left

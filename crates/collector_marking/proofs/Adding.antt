@@ -3,9 +3,9 @@ use mathlib.Core.Path.{◌≡◌, refl, ◌∙◌}
 use mathlib.Core.List.{List, [], ◌++◌}
 use Prim.Native.Nat.{ℕ}
 use Rattle.collector_marking.specs.Children.{hit}
-use Rattle.collector_marking.specs.Marks.{Fit, Same, Adds}
+use Rattle.collector_marking.specs.Adds.{Same, Adds}
 use Rattle.collector_marking.specs.declared.Marker.{Marker}
-use Rattle.collector_marking.proofs.Doing.{Doing, doing_start, doing_step, doing_end, doing_ready, marks-none, marks_both, marks-ready}
+use Rattle.collector_marking.proofs.Doing.{Doing, doing_start, doing_step, doing_end, marks-none, marks_both}
 
 pub same-self : {a : Marker} → Same a a
 same-self = record { slots = refl; fresh = refl; marks = refl; order = refl }
@@ -13,31 +13,25 @@ same-self = record { slots = refl; fresh = refl; marks = refl; order = refl }
 pub same_both : {a b d : Marker} → Same a b → Same b d → Same a d
 same_both p q = record { slots = q.slots ∙ p.slots; fresh = q.fresh ∙ p.fresh; marks = q.marks ∙ p.marks; order = q.order ∙ p.order }
 
-pub adds-none : {a : Marker} → Fit a → Adds [] a a
-adds-none r = record { marked = marks-none r.count; same = same-self }
+pub adds-none : {a : Marker} → Adds [] a a
+adds-none {a} = record { marked = marks-none a.fit.count; same = same-self }
 
 pub adds_as : {ws ws' : List ℕ} {a b : Marker} → ws ≡ ws' → Adds ws' a b → Adds ws a b
 adds_as e s = rw e s
 
-pub adds_both : {us ws : List ℕ} {a b d : Marker} → Fit a → Adds us a b → Adds ws b d → Adds (us ++ ws) a d
-adds_both r s t = record { marked = marks_both r.count s.marked (rw (s.same.slots, s.same.fresh) at t.marked); same = same_both s.same t.same }
-
-pub adds_fit : {ws : List ℕ} {a b : Marker} → Fit a → Adds ws a b → Fit b
-adds_fit r s = rw (s.same.slots, s.same.fresh) (marks-ready r s.marked)
+pub adds_both : {us ws : List ℕ} {a b d : Marker} → Adds us a b → Adds ws b d → Adds (us ++ ws) a d
+adds_both {a = a} s t = record { marked = marks_both a.fit.count s.marked (rw (s.same.slots, s.same.fresh) at t.marked); same = same_both s.same t.same }
 
 -- of the words ws, which the marker a was to mark, b has todo before it
 pub record Going (ws : List ℕ) (a : Marker) (todo : List ℕ) (b : Marker) : Type 0 where
   pub doing : Doing (hit a.slots.now a.fresh) ws a.marks.now a.order.now a.marked todo b.marks.now b.order.now b.marked
   pub same : Same a b
 
-pub going_start : {ws : List ℕ} {a : Marker} → Fit a → Going ws a ws a
-going_start r = record { doing = doing_start r.count; same = same-self }
+pub going_start : {ws : List ℕ} {a : Marker} → Going ws a ws a
+going_start {a = a} = record { doing = doing_start a.fit.count; same = same-self }
 
 pub going_step : {ws todo us rest : List ℕ} {a b d : Marker} → Going ws a todo b → todo ≡ us ++ rest → Adds us b d → Going ws a rest d
 going_step v e s = record { doing = doing_step v.doing e (rw (v.same.slots, v.same.fresh) at s.marked); same = same_both v.same s.same }
 
 pub going_end : {ws todo : List ℕ} {a b : Marker} → Going ws a todo b → todo ≡ [] → Adds ws a b
 going_end v e = record { marked = doing_end v.doing e; same = v.same }
-
-pub going_fit : {ws todo : List ℕ} {a b : Marker} → Fit a → Going ws a todo b → Fit b
-going_fit r v = rw (v.same.slots, v.same.fresh) (doing_ready r v.doing)

@@ -40,28 +40,42 @@ module _ {hit : ℕ → ℕ} {m o : List ℕ} {k : ℕ} (c : ones m ≡ k) where
   unfolding after queued put new
   marks-kept w b e = record { marks_length = refl; order_length = refl; count = c; marks = rw e; order = rw e (sym (append-nil (take k o))); rest = refl }
 
-  pub marks-past : {w n : ℕ} → length m ≡ n → hit w ≡ n → Marks hit (w ∷ []) m o k m o k
-  marks-past {w} l e = marks-kept w 0 (get_or-eq_default m 1 (omega arith))
+-- a marker's marks and order, and a word that it is to mark
+module _ {s m o : List ℕ} {n k : ℕ} (q : MarksFit s n m o k) where
+  pub marks-past : {hit : ℕ → ℕ} {w : ℕ} → hit w ≡ n → Marks hit (w ∷ []) m o k m o k
+  marks-past {hit} {w} e = marks-kept q.count w 0 (get_or-eq_default m 1 (omega (arith, q.len)))
 
-  pub marks-held : {w i : ℕ} → hit w ≡ i → i < length m → (get_or m i 0 ≡ 0 → ⊥) → Marks hit (w ∷ []) m o k m o k
-  marks-held {w} {i} e l h = marks-kept w (get_or m i 0 - 1) (rw e (get_d_in m i 1 0 l ∙ omega arith))
+  pub marks-held : {hit : ℕ → ℕ} {w i : ℕ} → hit w ≡ i → i < n → (get_or m i 0 ≡ 0 → ⊥) → Marks hit (w ∷ []) m o k m o k
+  marks-held {hit} {w} {i} e l h = marks-kept q.count w (get_or m i 0 - 1) (rw e (get_d_in m i 1 0 (omega (arith, q.len)) ∙ omega arith))
+
+  -- what a marker asks still holds after a slot is put into the order
+  pub order_ready : (x : ℕ) → MarksFit s n m (set o k x) k
+  order_ready x = record { few = q.few; fits = q.fits; len = q.len; room = omega (arith, q.room, length-set o k x); count = q.count }
 
   -- a slot newly marked
-  pub marks-placed : {w i : ℕ} → hit w ≡ i → i < length m → get_or m i 0 ≡ 0 → k < length o → Marks hit (w ∷ []) m o k (set m i 1) (set o k i) (k + 1)
-  unfolding after queued put new
-  marks-placed {w} {i} e l h r =
-      let z : get_or m i 1 ≡ 0 = get_d_in m i 1 0 l ∙ h in
-      record {
-        marks_length = length-set m i 1;
-        order_length = length-set o k i;
-        count = omega (arith, ones-set m i z);
-        marks = rw (e, z);
-        order = rw (e, z, add-one) (take-suc-set o k i r);
-        rest = drop-set-lt (k + 1) o k i (omega arith);
-      }
+  module _ {i : ℕ} (l : i < n) (h : get_or m i 0 ≡ 0) where
+    free : get_or m i 1 ≡ 0
+    free = get_d_in m i 1 0 (omega (arith, q.len)) ∙ h
 
-pub room-left : (m : List ℕ) {k i : ℕ} → ones m ≡ k → i < length m → get_or m i 0 ≡ 0 → k < length m
-room-left m {k} {i} c l h = omega (arith, ones-room m i (get_d_in m i 1 0 l ∙ h))
+    pub room-left : k < n
+    room-left = omega (arith, ones-room m i free, q.count, q.len)
+
+    more-ones : ones (set m i 1) ≡ k + 1
+    more-ones = omega (arith, ones-set m i free, q.count)
+
+    pub placed_ready : MarksFit s n (set m i 1) (set o k i) (k + 1)
+    placed_ready = record { few = q.few; fits = q.fits; len = length-set m i 1 ∙ q.len; room = omega (arith, q.room, length-set o k i); count = more-ones }
+
+    pub marks-placed : {hit : ℕ → ℕ} {w : ℕ} → hit w ≡ i → Marks hit (w ∷ []) m o k (set m i 1) (set o k i) (k + 1)
+    unfolding after queued put new
+    marks-placed {hit} {w} e = record {
+      marks_length = length-set m i 1;
+      order_length = length-set o k i;
+      count = more-ones;
+      marks = rw (e, free);
+      order = rw (e, free, add-one) (take-suc-set o k i (omega (arith, room-left, q.room)));
+      rest = drop-set-lt (k + 1) o k i (omega arith);
+    }
 
 pub grows : {hit : ℕ → ℕ} {ws m o m' o' : List ℕ} {k k' : ℕ} → ones m ≡ k → Marks hit ws m o k m' o' k' → k ≤ k'
 grows {hit} {ws} {m} c s = omega (arith, s.count, ap ones s.marks, after-ones hit ws m)
@@ -99,12 +113,6 @@ module _ {hit : ℕ → ℕ} {ws m₀ o₀ : List ℕ} {k₀ : ℕ} where
     rest = v.rest;
   }
 
-  pub doing_ready : {s todo m o : List ℕ} {n k : ℕ} → MarksFit s n m₀ o₀ k₀ → Doing hit ws m₀ o₀ k₀ todo m o k → MarksFit s n m o k
-  doing_ready q v = record { few = q.few; fits = q.fits; len = v.marks_length ∙ q.len; room = omega (arith, q.room, v.order_length); count = v.count }
-
 -- two markings, one after the other
 pub marks_both : {hit : ℕ → ℕ} {a b m o m' o' m'' o'' : List ℕ} {k k' k'' : ℕ} → ones m ≡ k → Marks hit a m o k m' o' k' → Marks hit b m' o' k' m'' o'' k'' → Marks hit (a ++ b) m o k m'' o'' k''
 marks_both {a = a} {b = b} c s s' = doing_end (doing_step {b = []} (doing_step {a = a} {b = b} (doing_start c) refl s) (sym (append-nil b)) s') refl
-
-pub marks-ready : {hit : ℕ → ℕ} {s ws m o m' o' : List ℕ} {n k k' : ℕ} → MarksFit s n m o k → Marks hit ws m o k m' o' k' → MarksFit s n m' o' k'
-marks-ready q v = record { few = q.few; fits = q.fits; len = v.marks_length ∙ q.len; room = omega (arith, q.room, v.order_length); count = v.count }

@@ -10,7 +10,8 @@ use lib.ListN.{length, get_or, take, drop, drop_of_length-le}
 use lib.Seq.{drop-cons, drop-append-le, drop_at, get_or-take, length-take-le}
 use Rattle.collector_marking.specs.Reach.{ones, queued, run, phase}
 use Rattle.collector_marking.specs.Children.{hit}
-use Rattle.collector_marking.specs.Marks.{MarksFit, Marks, Same, Adds, Present, Listing, Scanned, Phased}
+use Rattle.collector_marking.specs.Marks.{MarksFit, Marks, Present, Listing, Scanned, Phased}
+use Rattle.collector_marking.specs.Adds.{Same, Adds}
 use Rattle.collector_marking.specs.declared.Marker.{Marker}
 use Rattle.collector_marking.proofs.ReachLaws.{ones_le, many}
 use Rattle.collector_marking.proofs.Bridge.{hit-is}
@@ -65,9 +66,6 @@ module _ {s : List ℕ} {n : ℕ} {kids : ℕ → List ℕ} {m₀ o₀ : List �
 
     front : v < k → drop v (take k o) ≡ get_or o v 0 ∷ drop (suc v) (take k o)
     front h = drop-cons (take k o) v 0 (rw taken h) ∙ rw (get_or-take k o v 0 h)
-
-    pub scanning_fit : MarksFit s n m₀ o₀ k₀ → MarksFit s n m o k
-    scanning_fit r = record { few = r.few; fits = r.fits; len = g.marks_length; room = omega (arith, g.room, g.order_length); count = g.count }
 
     pub scanning-end : Scanned s n o₀ k₀ m o k
     scanning-end = record { marks_length = g.marks_length; order_length = g.order_length; count = g.count; more = g.more; rest = g.rest; listing = g.listing }

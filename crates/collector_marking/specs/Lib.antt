@@ -1,3 +1,4 @@
 pub mod Reach
 pub mod Children
 pub mod Marks
+pub mod Adds

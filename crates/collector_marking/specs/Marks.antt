@@ -8,7 +8,6 @@ use Rattle.heap_cells.specs.Regions.{raw_at}
 use Rattle.heap.specs.Good.{SlotGood}
 use Rattle.collector_marking.specs.Reach.{Marked, ones, after, queued, phase}
 use Rattle.collector_marking.specs.Children.{hit}
-use Rattle.collector_marking.specs.declared.Marker.{Marker}
 
 -- a mark for each of the n slots, room in the order for each; k slots are marked
 pub record MarksFit (s : List ℕ) (n : ℕ) (m o : List ℕ) (k : ℕ) : Type 0 where
@@ -26,22 +25,6 @@ pub record Marks (hit : ℕ → ℕ) (ws m o : List ℕ) (k : ℕ) (m' o' : List
   pub marks : m' ≡ after hit ws m
   pub order : take r o' ≡ take k o ++ queued hit ws m
   pub rest : drop r o' ≡ drop r o
-
--- what a marker asks
-abbrev pub Fit : Marker → Type 0
-Fit a = MarksFit a.slots.now a.fresh a.marks.now a.order.now a.marked
-
--- the marker b marks what a does
-pub record Same (a b : Marker) : Type 0 where
-  pub slots : b.slots ≡ a.slots
-  pub fresh : b.fresh ≡ a.fresh
-  pub marks : b.marks.ghost_name ≡ a.marks.ghost_name
-  pub order : b.order.ghost_name ≡ a.order.ghost_name
-
--- and the words ws were marked
-pub record Adds (ws : List ℕ) (a b : Marker) : Type 0 where
-  pub marked : Marks (hit a.slots.now a.fresh) ws a.marks.now a.order.now a.marked b.marks.now b.order.now b.marked
-  pub same : Same a b
 
 -- a slot with an object
 pub record Present (s : List ℕ) (n i : ℕ) : Type 0 where

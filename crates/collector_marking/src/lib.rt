@@ -11,7 +11,7 @@ ghost use Rattle.heap_slots.specs.Header.{scalars_at};
 ghost use Rattle.heap.specs.Kinds.{yes, perhaps, frame_at, frames_in};
 ghost use Rattle.collector_marking.specs.Reach.{run};
 ghost use Rattle.collector_marking.specs.Children.{hit, children, live_words, one_frame};
-ghost use Rattle.collector_marking.specs.Marks.{MarksFit, Fit, Same, Adds, Sound, Listing, Present, Scanned, Phased, Unmarked};
+ghost use Rattle.collector_marking.specs.Marks.{MarksFit, Sound, Listing, Present, Scanned, Phased, Unmarked};
 
 use heap_slots::{CoroutineScalars, IteratorScalars, MapScalars, kinds, limits};
 use layout::{Entry, Listed, ReadLayout, Section};
@@ -25,12 +25,14 @@ pub struct Marker<'a> {
     pub marks: &'a mut [u8],
     pub order: &'a mut [u32],
     pub marked: usize,
+    pub ghost fit: { MarksFit slots.now fresh marks.now order.now marked },
 }
 
 impl Marker<'_> {
+    ghost use Rattle.collector_marking.specs.Adds.{Same, Adds};
+
     // Marks the slot that the word reaches, if it is not marked, and puts it into the order.
     pub fn mark_word(&mut self, w: u64)
-        requires { Fit self.old }
         ensures { Adds (w ∷ []) self.old self.new }
     {
         let i = (w % limits::SPAN) as usize;
@@ -47,14 +49,13 @@ impl Marker<'_> {
         if self.marks[i] != 0 {
             return;
         }
-        self.marks[i] = 1;
         self.order[self.marked] = i as u32;
+        self.marks[i] = 1;
         self.marked += 1;
     }
 
     // Marks the word, if its type is traced.
     fn mark_typed(&mut self, ty: u64, w: u64)
-        requires { Fit self.old }
         ensures { Adds (word_if (is_traced ty) w) self.old self.new }
     {
         if 1 <= ty {
@@ -63,7 +64,6 @@ impl Marker<'_> {
     }
 
     pub fn mark_words(&mut self, words: &[u64])
-        requires { Fit self.old }
         ensures { Adds words.now self.old self.new }
     {
         for w in words {
@@ -73,8 +73,7 @@ impl Marker<'_> {
 
     // A map's entry: its key, then its value, if it is live.
     fn mark_entry(&mut self, cells: &[u64], p: usize, keys: u64, values: u64)
-        requires p_in_bounds { p * 5 + 5 ≤ length cells.now }
-        requires fit { Fit self.old }
+        requires { p * 5 + 5 ≤ length cells.now }
         ensures { Adds (live_words (is_traced keys) (is_traced values) (entry_at cells.now p)) self.old self.new }
     {
         let at = p * 5;
@@ -85,8 +84,7 @@ impl Marker<'_> {
     }
 
     fn mark_entries(&mut self, cells: &[u64], count: usize, keys: u64, values: u64)
-        requires count_in_bounds { count * 5 ≤ length cells.now }
-        requires fit { Fit self.old }
+        requires { count * 5 ≤ length cells.now }
         ensures { Adds (entry_words (is_traced keys) (is_traced values) (entries_in cells.now 0 count)) self.old self.new }
     {
         for p in 0..count {
@@ -96,7 +94,6 @@ impl Marker<'_> {
 
     // Marks the word at base + n, an exact sum; outside there is none.
     fn mark_at(&mut self, words: &[u64], base: u64, n: u64)
-        requires { Fit self.old }
         ensures { Adds (word_if (ltb (base + n) (length words.now)) (get_or words.now (base + n) 0)) self.old self.new }
     {
         let Some(i) = base.checked_add(n) else {
@@ -109,7 +106,6 @@ impl Marker<'_> {
 
     // An iterator: its source; its key, if it has one and the type is traced.
     fn mark_iterator(&mut self, source: u64, ty: u64, known: u64, key: u64)
-        requires { Fit self.old }
         ensures { Adds (source ∷ key_word (is_traced ty) (perhaps known key)) self.old self.new }
     {
         self.mark_word(source);
@@ -120,7 +116,6 @@ impl Marker<'_> {
 
     // Marks the fields that a struct type lists, from a place in its section on.
     fn mark_fields(&mut self, fields: &[u64], layout: ReadLayout<'_>, at: usize)
-        requires { Fit self.old }
         ensures { Adds (words_at (fields_from layout.entry.bytes.now at) fields.now) self.old self.new }
     {
         let mut from = at;
@@ -132,7 +127,6 @@ impl Marker<'_> {
 
     // Marks the registers base + number that a function lists, from a place in its section on.
     fn mark_registers(&mut self, registers: &[u64], base: u64, layout: ReadLayout<'_>, at: usize)
-        requires { Fit self.old }
         ensures { Adds (words_at (map (λ n. base + n) (registers_from layout.entry.bytes.now at)) registers.now) self.old self.new }
     {
         let mut from = at;
@@ -144,7 +138,6 @@ impl Marker<'_> {
 
     // Marks the captures whose type, as a function lists it, is traced.
     fn mark_captures(&mut self, captures: &[u64], layout: ReadLayout<'_>, at: usize)
-        requires { Fit self.old }
         ensures { Adds (traced_by_type (captures_from layout.entry.bytes.now at) captures.now) self.old self.new }
     {
         let mut from = at;
@@ -159,8 +152,7 @@ impl Marker<'_> {
 
     // A frame: its closure, then its function's registers.
     fn mark_frame(&mut self, registers: &[u64], frames: &[u64], j: usize, layout: ReadLayout<'_>)
-        requires j_in_bounds { j * 4 + 4 ≤ length frames.now }
-        requires fit { Fit self.old }
+        requires { j * 4 + 4 ≤ length frames.now }
         ensures { Adds (one_frame (layout_of layout.entry.bytes.now) registers.now (frame_at frames.now j)) self.old self.new }
     {
         let at = j * 4;
@@ -176,8 +168,7 @@ impl Marker<'_> {
         count: usize,
         layout: ReadLayout<'_>,
     )
-        requires count_in_bounds { count * 4 ≤ length frames.now }
-        requires fit { Fit self.old }
+        requires { count * 4 ≤ length frames.now }
         ensures { Adds (frame_words (layout_of layout.entry.bytes.now) registers.now (frames_in frames.now 0 count)) self.old self.new }
     {
         for j in 0..count {
@@ -186,7 +177,6 @@ impl Marker<'_> {
     }
 
     fn mark_items(&mut self, ty: u64, items: &[u64])
-        requires { Fit self.old }
         ensures { Adds (cond (is_traced ty) items.now []) self.old self.new }
     {
         if 1 <= ty {
@@ -195,7 +185,6 @@ impl Marker<'_> {
     }
 
     fn mark_struct(&mut self, number: u64, fields: &[u64], layout: ReadLayout<'_>)
-        requires { Fit self.old }
         ensures { Adds (words_at (fields_of (layout_of layout.entry.bytes.now) number) fields.now) self.old self.new }
     {
         let at = layout.section(Section::Struct, number);
@@ -204,7 +193,6 @@ impl Marker<'_> {
 
     // A function object: none of an import's captures.
     fn mark_function(&mut self, import: u64, number: u64, captures: &[u64], layout: ReadLayout<'_>)
-        requires { Fit self.old }
         ensures { Adds (cond (yes import) [] (traced_by_type (captures_of (layout_of layout.entry.bytes.now) number) captures.now)) self.old self.new }
     {
         if import == 0 {
@@ -223,8 +211,7 @@ impl Marker<'_> {
         count: usize,
         layout: ReadLayout<'_>,
     )
-        requires cells_len { length cells.now ≡ len + 4 * count }
-        requires fit { Fit self.old }
+        requires { length cells.now ≡ len + 4 * count }
         ensures { Adds (waiting ++ frame_words (layout_of layout.entry.bytes.now) (take len cells.now) (frames_in (drop len cells.now) 0 count)) self.old self.new }
     {
         self.mark_words(&waiting);
@@ -235,7 +222,6 @@ impl Marker<'_> {
     fn mark_object(&mut self, i: usize, scalars: &[u64], cells: &[u64], layout: ReadLayout<'_>)
         requires present { Present self.old.slots.now self.old.fresh i }
         requires sound { Sound self.old.slots.now scalars.now cells.now self.old.fresh }
-        requires fit { Fit self.old }
         ensures { Adds (children (layout_of layout.entry.bytes.now) self.old.slots.now scalars.now cells.now i) self.old self.new }
     {
         let h = heap_slots::read_header(self.slots, i);
@@ -276,7 +262,6 @@ impl Marker<'_> {
     fn mark_next(&mut self, i: usize, scalars: &[u64], cells: &[u64], layout: ReadLayout<'_>)
         requires present { Present self.old.slots.now self.old.fresh i }
         requires sound { Sound self.old.slots.now scalars.now cells.now self.old.fresh }
-        requires fit { Fit self.old }
         ensures { Adds (children (layout_of layout.entry.bytes.now) self.old.slots.now scalars.now cells.now i) self.old self.new }
     {
         let h = heap_slots::read_header(self.slots, i);
@@ -292,7 +277,6 @@ impl Marker<'_> {
     fn trace(&mut self, scalars: &[u64], cells: &[u64], layout: ReadLayout<'_>, visited: usize)
         requires visited_le_marked { visited ≤ self.old.marked }
         requires sound { Sound self.old.slots.now scalars.now cells.now self.old.fresh }
-        requires fit { Fit self.old }
         requires listing { Listing self.old.slots.now self.old.fresh self.old.marks.now self.old.order.now self.old.marked }
         ensures marks_after { self.new.marks.now ≡ run (hit self.old.slots.now self.old.fresh) (children (layout_of layout.entry.bytes.now) self.old.slots.now scalars.now cells.now) self.old.fresh self.old.marks.now (drop visited (take self.old.marked self.old.order.now)) }
         ensures scanned { Scanned self.old.slots.now self.old.fresh self.old.order.now self.old.marked self.new.marks.now self.new.order.now self.new.marked }

@@ -1,4 +1,4 @@
-// Calls that change the heap or are lent a list, by their number.
+// Calls that change the heap or are lent a list, by their number: rows as in `readings`.
 ghost use Rattle.std.specs.Prelude.{◌≡◌, List, [], ℕ};
 ghost use Rattle.layout.specs.Sections.{layout_of};
 ghost use Rattle.heap.specs.Answers.{done_is, made_is, reading_is};
@@ -335,10 +335,7 @@ pub fn lent_call(
         table,
     };
     match code {
-        0x0C => Some(answers::collected(collector::collect(
-            heap, slots, scalars, list, directory, cells, read, marks, order, words, places,
-        ))),
-        0x0F => Some(answers::collected(collector::collect(
+        0x0C | 0x0F => Some(answers::collected(collector::collect(
             heap, slots, scalars, list, directory, cells, read, marks, order, words, places,
         ))),
         0x26 => {

@@ -62,7 +62,8 @@ pub struct Shape {
     pub group: u64,
 }
 
-// Group, memory, form, operands.
+// Group, memory, form, operands, packed: over a table of structs with enums the computed test that
+// holds it to the list ran out of memory. A gap has 15 for its operands, which no reader takes.
 const ROWS: [u64; 103] = [
     0x01_0_0_733333333,
     0x0A_0_0_000000003,

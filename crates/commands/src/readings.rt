@@ -1,4 +1,5 @@
-// Readings by their number.
+// Readings by their number. A group's rows are a match: each code makes another call with other
+// operands, and an enum of the codes would take the same rows to be made of a byte.
 ghost use Rattle.std.specs.Prelude.{◌≡◌};
 ghost use Rattle.map_store.specs.View.{cursor_is};
 ghost use Rattle.model.specs.Calls as Calls;

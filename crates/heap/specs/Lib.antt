@@ -6,6 +6,7 @@ pub mod Good
 pub mod GoodOnce
 pub mod View
 pub mod Promise
+pub mod Charging
 pub mod Locating
 pub mod Placing
 pub mod Opens

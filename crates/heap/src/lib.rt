@@ -13,6 +13,7 @@ ghost use Rattle.model.specs.Calls as Calls;
 ghost use Rattle.model.specs.Replies.{nothing, number, truth};
 ghost use Rattle.heap.specs.Answers.{answered, done_is, kind_number, missing, number_of};
 ghost use Rattle.heap.specs.declared.Refusal.TheVariants as No;
+ghost use Rattle.heap.specs.Charging.{ZeroCharge};
 ghost use Rattle.heap.specs.Locating.{RowOrDead};
 ghost use Rattle.heap.specs.State.{state};
 ghost use Rattle.heap.specs.Good.{Good};
@@ -156,6 +157,7 @@ fn kind_at(row: u64) -> Kind
     requires { RowOrDead row }
     ensures { kind_number result ≡ row }
 {
+    // A kind is a word of a slot here, and an enum from here on.
     match row {
         kinds::STRING => Kind::String,
         kinds::INTEGER => Kind::Integer,
@@ -202,6 +204,13 @@ pub fn charge(
 {
     heap.account = heap.account.charge(bytes)?;
     Ok(())
+}
+
+// "Zero bytes is a charge too": refused where used exceeds the limit, and it changes nothing.
+pub fn zero_fits(account: Account) -> bool
+    ensures { ZeroCharge account result }
+{
+    account.used <= account.limit
 }
 
 // Whether a charge of `bytes` would be accepted.

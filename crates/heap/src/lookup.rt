@@ -18,7 +18,8 @@ pub fn locate(slots: &[u64], fresh: u64, w: u64, kind: u64) -> Result<usize, Ref
     }
 }
 
-// The row of the object that a word reaches; DEAD for a dead reference, else NONE.
+// The row of the object that a word reaches; DEAD for a dead reference, else NONE. A number, as `get`
+// answers it; `kind_at` makes it an enum.
 pub fn row_at(slots: &[u64], fresh: u64, w: u64) -> u64
     requires { HasSlots slots.now fresh }
     ensures { Ranks slots.now fresh w result }

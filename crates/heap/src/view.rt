@@ -6,6 +6,8 @@ ghost use Rattle.heap.specs.GoodOnce.{good-prop};
 
 use crate::Heap;
 
+// A change takes the lists one by one: a struct of `&mut` lists would ask for lists that it does not
+// change, which C lends as const.
 #[derive(Clone, Copy)]
 pub struct HeapView<'a> {
     pub heap: Heap,

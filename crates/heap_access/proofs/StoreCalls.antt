@@ -9,9 +9,7 @@ use mathlib.Core.List.{List, [], ◌∷◌}
 use native.Mathlib.Omega.{arith}
 use lib.ListN.{set}
 use Rattle.heap_slots.specs.Limits.{SLOT_WORDS}
-use Rattle.account.specs.declared.Account.{Account}
-use Rattle.account.specs.Account.{charged, fits, saturated}
-use Rattle.account.specs.AccountLaws.{saturated-below}
+use Rattle.account.specs.Account.{charged, fits}
 use Rattle.heap_slots.specs.Header.{header_at}
 use Rattle.heap_slots.specs.declared.Header.{Header}
 use Rattle.heap_cells.specs.Regions.{raw_at}
@@ -109,15 +107,6 @@ module _ {b : State} {w : ℕ} (v : ℕ) (g : Good b) where
 
 -- ---- an item
 
--- a charge of zero bytes leaves the account as it was
-pub charged_nothing : (a : Account) → a.used ≤ 0xFFFFFFFFFFFFFFFF → a.since ≤ 0xFFFFFFFFFFFFFFFF → charged a 0 ≡ a
-unfolding charged
-charged_nothing a u s =
-    let none = saturated-below 0 (omega arith) in
-    let used : a.used + saturated 0 ≡ a.used = omega arith in
-    let since : a.since + saturated 0 ≡ a.since = omega arith in
-    rw (used, since, saturated-below a.used u, saturated-below a.since s)
-
 -- no array there
 pub item_lost : {b : State} {w : ℕ} {r : Result ℕ Refusal} {q : Refusal} (p v : ℕ) (x : Result Unit Refusal) → Good b → Locates b.slots b.heap.fresh w 6 r → r ≡ Err q → IsErrAnd x (λ e. e ≡ q) → Performs (Calls.store_item w p v) b (done_is x) b
 unfolding terms charging seen_by
@@ -131,13 +120,13 @@ module _ {b : State} {w i : ℕ} {r : Result ℕ Refusal} (p v : ℕ) (g : Good 
   unfolding terms charging seen_by
   item-over f z l = does_5 l g (Calls.store_item w p v) (object_passes l g (Calls.store_item w p v) (located_at g d e) says_array refl) refl (sym f ∙ z) refl
 
-  module _ {ok : Bool} {h : Header} (f : ok ≡ fits b.heap.account 0) (z : ok ≡ true) (same : charged b.heap.account 0 ≡ b.heap.account)
+  module _ {ok : Bool} {h : Header} (f : ok ≡ fits b.heap.account 0) (z : ok ≡ true) (same : b.heap.account ≡ charged b.heap.account 0)
       (q : h ≡ header_at b.slots i) where
     item-done : (ws : List ℕ) → Stored b (with_cells b ws) i (put_item p v) same_room → Performs (Calls.store_item w p v) b (done_is accepted) (with_cells b ws)
     unfolding terms charging effect seen_by
     item-done ws s l =
         let o = located_at g d e in
-        does_stored_charged l g o.reached s (Calls.store_item w p v) refl refl (sym f ∙ z) (sym same)
+        does_stored_charged l g o.reached s (Calls.store_item w p v) refl refl (sym f ∙ z) same
         (object_passes l g (Calls.store_item w p v) o says_array refl) refl refl
 
     pub item_stored : p < h.len → Performs (Calls.store_item w p v) b (done_is accepted) (with_cells b (set b.cells (h.start + p) v))

@@ -1,4 +1,5 @@
-// Readings of the contents of objects.
+// Readings of the contents of objects: each is one line over a general one, and its clause names the
+// model's call. A generic one would be told kind and word at each caller.
 ghost use Rattle.std.specs.Prelude.{◌≡◌, ◌+◌, ◌≤◌, ◌<◌, length};
 ghost use Rattle.heap_slots.specs.Limits.{SLOT_WORDS};
 ghost use Rattle.model.specs.Calls as Calls;

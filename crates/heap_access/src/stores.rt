@@ -1,6 +1,5 @@
 // Stores that keep an object's length.
-ghost use Rattle.std.specs.Prelude.{◌≡◌, ◌+◌, ◌*◌, ◌≤◌, ◌<◌, length};
-ghost use Rattle.account.specs.Account.{charged, fits};
+ghost use Rattle.std.specs.Prelude.{◌+◌, ◌*◌, ◌≤◌, ◌<◌, length};
 ghost use Rattle.heap_slots.specs.Limits.{HasSlots, SLOT_WORDS, SLOTS_MAX};
 ghost use Rattle.model.specs.Calls as Calls;
 ghost use Rattle.model.specs.Rules as Parts;
@@ -10,8 +9,7 @@ ghost use Rattle.heap.specs.State.{state};
 ghost use Rattle.heap.specs.Good.{Good};
 ghost use Rattle.heap.specs.Promise.{Performs};
 
-use account::Account;
-use heap::{Heap, Refusal, lookup};
+use heap::{Heap, Refusal, lookup, zero_fits};
 use heap_slots::limits::SLOT_WORDS;
 use heap_slots::{KEY, MODE, PAYLOAD, RESULT, SIGNAL, VALUE, kinds};
 
@@ -69,14 +67,6 @@ fn store_word(
     }
     cells[(h.start + i) as usize] = v;
     Ok(())
-}
-
-// Whether a charge of zero bytes is accepted. It leaves the account as it was.
-fn allows_nothing(account: Account) -> bool
-    ensures accepted { result ≡ fits account 0 }
-    ensures unchanged { charged account 0 ≡ account }
-{
-    account.allows(0)
 }
 
 // A new word for a cell or a box.
@@ -265,7 +255,7 @@ pub fn store_item(
     ensures { Performs (Calls.store_item w i v) (state heap.now slots.now scalars.now list.now directory.now cells.old) (done_is result) (state heap.now slots.now scalars.now list.now directory.now cells.new) }
 {
     let at = lookup::locate(slots, heap.fresh, w, kinds::ARRAY)?;
-    if !allows_nothing(heap.account) {
+    if !zero_fits(heap.account) {
         return Err(Refusal::OverBudget);
     }
     let h = heap_slots::read_header(slots, at);

@@ -246,14 +246,7 @@ fn coroutine_bytes(weights: Weights, registers: u64, frames: u64) -> u64
     ensures { result ≡ saturated (weights.slot + (weights.coroutine + 8 * registers + weights.frame * frames)) }
 {
     let base = weights.slot.saturating_add(weights.coroutine);
-    making::word_bytes(base, registers).saturating_add(weights.frame.saturating_mul(frames))
-}
-
-#[tactic(auto, unfolding(account::specs::Account::saturated))]
-fn coroutine_cells(registers: u64, frames: u64) -> u64
-    ensures { result ≡ saturated (registers + 4 * frames) }
-{
-    registers.saturating_add(frames.saturating_mul(4))
+    making::with_each::<8>(base, registers).saturating_add(weights.frame.saturating_mul(frames))
 }
 
 // The coroutine is placed, with its scalars and registers; its frames' cells are as they were.
@@ -316,7 +309,7 @@ fn begin(
     let n = frames as u64;
     let words = registers.len() as u64;
     let bytes = coroutine_bytes(heap.weights, words, n);
-    let size = coroutine_cells(words, n);
+    let size = making::with_each::<4>(words, n);
     making::prepare(heap, slots, scalars, list, directory, cells, bytes, size)?;
     let at = heap.top as usize + registers.len();
     let word = place_coroutine(

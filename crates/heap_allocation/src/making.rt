@@ -50,12 +50,12 @@ pub fn new_with_scalars(
     placing::place_plain(heap, slots, scalars, list, directory, cells, header, bytes)
 }
 
-// A base weight and eight bytes for each of n words.
+// A base and so many for each of n.
 #[tactic(auto, unfolding(account::specs::Account::saturated))]
-pub(crate) fn word_bytes(base: u64, n: u64) -> u64
-    ensures { result ≡ saturated (base + 8 * n) }
+pub(crate) fn with_each<const EACH: u64>(base: u64, n: u64) -> u64
+    ensures { result ≡ saturated (base + EACH * n) }
 {
-    base.saturating_add(n.saturating_mul(8))
+    base.saturating_add(n.saturating_mul(EACH))
 }
 
 // 5, 6, 7 judged; an accepted object of `size` cells then has room for them at the top.
@@ -117,7 +117,7 @@ pub(crate) fn new_words(
     ensures { MadeWords (state heap.old slots.old scalars.now list.now directory.old cells.old) (headerOf kind value mode (length words.now) (length words.now)) (saturated (heap.old.weights.slot + 8 * length words.now)) words.now result (state heap.new slots.new scalars.now list.now directory.new cells.new) × Good (state heap.new slots.new scalars.now list.now directory.new cells.new) }
 {
     let n = words.len() as u64;
-    let bytes = word_bytes(heap.weights.slot, n);
+    let bytes = with_each::<8>(heap.weights.slot, n);
     prepare(heap, slots, scalars, list, directory, cells, bytes, n)?;
     heap_cells::copy_words(words, cells, heap.top as usize);
     let h = Header {
@@ -145,7 +145,7 @@ pub(crate) fn new_items(
     requires { Good (state heap.old slots.old scalars.now list.now directory.old cells.old) }
     ensures { MadeWords (state heap.old slots.old scalars.now list.now directory.old cells.old) (headerOf ARRAY 0 t n n) (saturated (heap.old.weights.slot + 8 * n)) (replicate n 0) result (state heap.new slots.new scalars.now list.now directory.new cells.new) × Good (state heap.new slots.new scalars.now list.now directory.new cells.new) }
 {
-    let bytes = word_bytes(heap.weights.slot, n);
+    let bytes = with_each::<8>(heap.weights.slot, n);
     prepare(heap, slots, scalars, list, directory, cells, bytes, n)?;
     heap_cells::fill(cells, heap.top as usize, n as usize);
     let h = Header {

@@ -1,4 +1,5 @@
 // The calls in loops, for bench/run: a Rust or C caller keeps the heap's record in nineteen words between the loops.
+// A function for each workload, which C calls by its name.
 #![tactic(auto)]
 
 ghost use Rattle.std.specs.Prelude.{◌≡◌, length};
@@ -60,6 +61,7 @@ pub extern "C" fn heap_bench_store_box(
     ensures { Ran (box_stores words.now values.now) (length words.now) (state (loaded heap.now) slots.old scalars.now list.now directory.now cells.now) (state (loaded heap.now) slots.new scalars.now list.now directory.now cells.now) }
 {
     let h = heap_record::load(heap);
+    // By index here and below, as in map_bench.
     for (i, w) in words.iter().enumerate() {
         let v = values[i];
         let _ = heap_access::stores::store_box(&h, slots, scalars, list, directory, cells, *w, v);

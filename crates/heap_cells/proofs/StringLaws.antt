@@ -1,5 +1,5 @@
 -- Strings in cells: eight bytes to a cell. Assumes nothing.
-use Prim.Native.Nat.{ℕ, zero, suc, ◌+◌, ◌*◌, ◌-◌, ◌/◌, ◌%◌, ◌^◌, ◌≤◌, ◌<◌}
+use Prim.Native.Nat.{ℕ, zero, suc, ◌+◌, ◌*◌, ◌-◌, ◌/◌, ◌%◌, ◌^◌, ◌≤◌, ◌<◌, min}
 use mathlib.Core.Path.{◌≡◌, refl, ap, sym, ◌∙◌}
 use mathlib.Core.Logic.{◌⊎◌, inl, inr}
 use mathlib.Core.List.{List, [], ◌∷◌, ◌++◌}
@@ -53,15 +53,6 @@ packs_padded bs w l small e =
           rw z (sym (digit w k lk) ∙ ap (λ (x : List ℕ). get_or x k 0) (le_bytes_8 eight w le low e) ∙ get_or-append bs (drop (length bs) zeros) 0 k h');
     }
 
--- the bytes behind the last whole cell
-pub packs_rest : {bs : List ℕ} {at w : ℕ} → Packs (take (length bs - at) (drop at bs)) 0 w → Packs bs at w
-packs_rest {bs} {at} p =
-    record {
-      each = λ k lk h.
-          let m : 0 + k < length (take (length bs - at) (drop at bs)) = simp (length-take, length-drop) (omega arith) in
-          p.each k lk m ∙ get_or-take (length bs - at) (drop at bs) (0 + k) 0 (omega arith) ∙ get_or-drop at bs (0 + k) 0 ∙ ap (λ (q : ℕ). get_or bs (at + q) 0) (omega arith);
-    }
-
 -- the first n bytes of a word stored
 pub unpacked : {w : ℕ} {b ys : List ℕ} {at n : ℕ} → ys ≡ take n (to_le_bytes w64 w) → n ≤ 8 → at + n ≤ length b → Unpacked w b (put_mid at (at + n - at) b ys) at n
 unpacked {w} {b} {ys} {at} {n} e l fits =
@@ -99,6 +90,37 @@ writing_more {bs} {c} {c'} {from} {q} w m p lt =
           get_or-set_other c' (from + q) a w 0 (by_cases b (λ l. omega arith) (λ l. omega arith))
           ∙ m.outside a (by_cases b (λ l. inl l) (λ l. inr (omega arith)));
     }
+
+-- ---- a string cut into pieces of eight
+
+-- a piece and what stands behind it, where n pieces stand before it
+pub record Piece (bs chunk rest rest' : List ℕ) (n : ℕ) : Type 0 where
+  pub here : rest ≡ drop (n * 8) bs
+  pub cut : rest ≡ chunk ++ rest'
+  pub size : length chunk ≡ min 8 (length rest)
+
+piece-length : {bs chunk rest rest' : List ℕ} {n : ℕ} → Piece bs chunk rest rest' n → length chunk + length rest' ≡ length bs - n * 8
+piece-length {bs} {chunk} {rest} {rest'} {n} q = sym (length-append chunk rest') ∙ ap length (sym q.cut ∙ q.here) ∙ length-drop (n * 8) bs
+
+rest-length : {bs chunk rest rest' : List ℕ} {n : ℕ} → Piece bs chunk rest rest' n → length rest ≡ length bs - n * 8
+rest-length {bs} {n = n} q = ap length q.here ∙ length-drop (n * 8) bs
+
+pub piece_packs : {bs chunk rest rest' : List ℕ} {n w : ℕ} → Piece bs chunk rest rest' n → Packs chunk 0 w → Packs bs (n * 8) w
+piece_packs {bs} {chunk} {rest} {rest'} {n} q p =
+    record {
+      each = λ k lk h.
+          let m : 0 + k < length chunk = omega (arith, q.size, rest-length q) in
+          p.each k lk m ∙ sym (get_or-append chunk rest' 0 (0 + k) m) ∙ ap (λ (l : List ℕ). get_or l (0 + k) 0) (sym q.cut ∙ q.here) ∙ get_or-drop (n * 8) bs (0 + k) 0
+          ∙ ap (λ (a : ℕ). get_or bs a 0) (omega arith);
+    }
+
+pub piece_rest : {bs chunk rest rest' : List ℕ} {n : ℕ} → Piece bs chunk rest rest' n → rest' ≡ drop ((n + 1) * 8) bs
+piece_rest {bs} {chunk} {rest} {rest'} {n} q =
+    ext_get_or 0 rest' (drop ((n + 1) * 8) bs) (omega (arith, q.size, rest-length q, piece-length q, length-drop ((n + 1) * 8) bs))
+    (λ k lk.
+    let e : length chunk ≡ 8 = omega (arith, q.size, rest-length q, piece-length q) in
+    sym (get_or-append-add chunk rest' k 0) ∙ ap (λ (l : List ℕ). get_or l (length chunk + k) 0) (sym q.cut ∙ q.here) ∙ get_or-drop (n * 8) bs (length chunk + k) 0
+    ∙ ap (λ (a : ℕ). get_or bs a 0) (omega (arith, e)) ∙ sym (get_or-drop ((n + 1) * 8) bs k 0))
 
 -- ---- the bytes of cells
 

@@ -1,5 +1,6 @@
 // Regions of the lent cells: a directory lists their owners in address order; new regions go to the
-// top; compaction slides all regions down in the directory's order.
+// top; compaction slides all regions down in the directory's order. All regions are one lent list, so a
+// region is a place in it and a size.
 #![tactic(auto)]
 
 ghost use Rattle.std.specs.Prelude.{◌≡◌, ◌++◌, ◌+◌, ◌*◌, ◌-◌, ◌≤◌, ◌<◌, length, take, drop, MatchOption};
@@ -58,12 +59,8 @@ pub fn write_string(bytes: &[u8], cells: &mut [u64], from: usize)
     requires { (from + string_cells (length bytes.now) ≤ length cells.old) × (length cells.old ≤ CELLS_MAX) }
     ensures { Written bytes.now cells.old cells.new from }
 {
-    let whole = bytes.len() / 8;
-    for q in 0..whole {
-        cells[from + q] = pack(&bytes[q * 8..q * 8 + 8]);
-    }
-    if whole * 8 < bytes.len() {
-        cells[from + whole] = pack(&bytes[whole * 8..]);
+    for (q, chunk) in bytes.chunks(8).enumerate() {
+        cells[from + q] = pack(chunk);
     }
 }
 

@@ -1,12 +1,12 @@
 // The heap's record kept in nineteen words between calls: the account (used, since, threshold,
 // limit), the five weights, and size, fresh, free, top, entries, taken, present, coroutines,
-// collections, freed.
+// collections, freed. Words and numbers, since a C caller keeps them.
 #![tactic(auto)]
 
 ghost use Rattle.std.specs.Prelude.{◌≡◌, length};
 ghost use Rattle.heap.specs.State.{state};
 ghost use Rattle.heap.specs.Opens.{beside, new_heap, opening_of};
-ghost use Rattle.heap_record.specs.Record.{OpensWords, Settles, loaded, weights_in};
+ghost use Rattle.heap_record.specs.Record.{OpensWords, Settles, account_in, loaded, weights_in};
 
 use account::Account;
 use heap::{Heap, Refusal};
@@ -16,32 +16,40 @@ use model::Weights;
 pub fn load(words: &[u64; 19]) -> Heap
     ensures { result ≡ loaded words.now }
 {
-    let account = Account {
-        used: words[0],
-        since: words[1],
-        threshold: words[2],
-        limit: words[3],
-    };
-    let weights = Weights {
-        slot: words[4],
-        entry: words[5],
-        iterator: words[6],
-        coroutine: words[7],
-        frame: words[8],
-    };
+    let [
+        used,
+        since,
+        threshold,
+        limit,
+        slot,
+        entry,
+        iterator,
+        coroutine,
+        frame,
+        size,
+        fresh,
+        free,
+        top,
+        directory,
+        taken,
+        present,
+        coroutines,
+        collections,
+        freed,
+    ] = *words;
     Heap {
-        account,
-        weights,
-        size: words[9],
-        fresh: words[10],
-        free: words[11],
-        top: words[12],
-        entries: words[13],
-        taken: words[14],
-        present: words[15],
-        coroutines: words[16],
-        collections: words[17],
-        freed: words[18],
+        account: load_account([used, since, threshold, limit]),
+        weights: load_weights([slot, entry, iterator, coroutine, frame]),
+        size,
+        fresh,
+        free,
+        top,
+        entries: directory,
+        taken,
+        present,
+        coroutines,
+        collections,
+        freed,
     }
 }
 
@@ -73,15 +81,28 @@ pub fn save(words: &mut [u64; 19], heap: Heap)
     ];
 }
 
-fn load_weights(words: &[u64; 5]) -> Weights
-    ensures { result ≡ weights_in words.now }
+fn load_account(words: [u64; 4]) -> Account
+    ensures { result ≡ account_in words }
 {
+    let [used, since, threshold, limit] = words;
+    Account {
+        used,
+        since,
+        threshold,
+        limit,
+    }
+}
+
+fn load_weights(words: [u64; 5]) -> Weights
+    ensures { result ≡ weights_in words }
+{
+    let [slot, entry, iterator, coroutine, frame] = words;
     Weights {
-        slot: words[0],
-        entry: words[1],
-        iterator: words[2],
-        coroutine: words[3],
-        frame: words[4],
+        slot,
+        entry,
+        iterator,
+        coroutine,
+        frame,
     }
 }
 
@@ -121,7 +142,7 @@ pub fn open(
     let opened = heap::open(
         size,
         limit,
-        load_weights(weights),
+        load_weights(*weights),
         layout,
         table,
         marks,

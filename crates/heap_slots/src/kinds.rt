@@ -1,5 +1,6 @@
 // The rows of document 01's table of kinds. A slot without an object has the row NONE. They are
-// numbers and no enum: a kind is a word of a lent slot, compared as it lies there.
+// numbers and no enum: a kind is a word of a lent slot, compared as it lies there. So are a type, 0
+// to 2, and a coroutine's state, 0 to 4.
 pub const NONE: u64 = 0;
 
 pub const STRING: u64 = 1;

@@ -1,6 +1,7 @@
 // Slots: a header of eight words for each slot in one lent slice, eight more words for the kinds
 // that need them in a second one, the lookup of a word, and the free list. `kinds` has the rows of
-// the table of kinds, `limits` the numbers of slots, cells and references.
+// the table of kinds, `limits` the numbers of slots, cells and references. The lists are flat words, as
+// C lends them: a slot is a place in them.
 #![tactic(auto)]
 
 pub mod kinds;
@@ -72,6 +73,7 @@ pub struct Scalars {
 
 // A map's scalars: the types of its keys and values, whether it is hashed, whether the noted key is
 // known, the noted key, the next sequence number, the epoch, the number of live entries.
+// Its flags, and those below, are words: they stand in the lent list.
 #[derive(Clone, Copy)]
 pub struct MapScalars {
     pub keys: u64,
@@ -243,6 +245,8 @@ pub struct TakenSlot {
     pub free: u64,
 }
 
+// Header and scalars are eight named words each: one function for both would take a trait whose two
+// impls name them again.
 #[tactic(auto, unfolding(crate::specs::Header::header_at))]
 pub fn read_header(slots: &[u64], i: usize) -> Header
     requires { HasSlot slots.now i }

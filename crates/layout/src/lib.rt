@@ -40,6 +40,7 @@ pub struct Listed {
     pub next: usize,
 }
 
+// One of three things, not a value or none.
 #[derive(Clone, Copy, Debug, PartialEq, Eq)]
 enum Command {
     End,
@@ -48,7 +49,8 @@ enum Command {
 }
 
 impl Section {
-    // The table's word from which on the starts of such sections stand.
+    // The table's word from which on the starts of such sections stand. Here and below a constant for
+    // each kind, in rows: as constants of a trait they would stand in two impls.
     fn base(self) -> usize
         ensures { result ≡ base_of self }
     {
@@ -109,6 +111,7 @@ fn read_command(bytes: &[u8]) -> Option<(Command, &[u8])>
     let [byte, rest @ ..] = bytes else {
         return None;
     };
+    // What a byte means stands here once, as rows.
     match byte {
         0 => Some((Command::End, rest)),
         1 => Some((Command::Begins(Section::Struct), rest)),

@@ -27,56 +27,31 @@ struct Small {
 
 // ---- lines
 
-fn print_number(rt: &impl Print, n: u64) -> io::Result<()> {
-    let mut out = [0u8; 21];
-    let end = text::put_spaced_decimal(&mut out, 0, n);
-    rt.write_all(&out[..end])
-}
-
 fn print_refusal(rt: &impl Print, q: Refusal) -> io::Result<()> {
-    rt.write_all(b"refused")?;
-    print_number(rt, u64::from(q))?;
-    rt.write_all(b"\n")
+    println!(rt; "refused {}", u64::from(q))
 }
 
 // Function, counter, base, closure; or the refusal.
 fn print_frame(rt: &impl Print, frame: Result<Frame, Refusal>) -> io::Result<()> {
     match frame {
         Err(q) => print_refusal(rt, q),
-        Ok(f) => {
-            rt.write_all(b"frame")?;
-            print_number(rt, f.function)?;
-            print_number(rt, f.counter)?;
-            print_number(rt, f.base)?;
-            print_number(rt, f.closure)?;
-            rt.write_all(b"\n")
-        },
+        Ok(f) => println!(rt;
+            "frame {} {} {} {}",
+            f.function, f.counter, f.base, f.closure
+        ),
     }
 }
 
-// The sequence number yielded last, if any; position, epoch.
-fn print_cursor(rt: &impl Print, c: Cursor) -> io::Result<()> {
-    rt.write_all(b" cursor")?;
-    match c.last {
-        None => rt.write_all(b" never")?,
-        Some(n) => print_number(rt, n)?,
-    }
-    print_number(rt, c.pos as u64)?;
-    print_number(rt, u64::from(c.epoch))?;
-    rt.write_all(b"\n")
-}
-
-fn print_answer(rt: &impl Print, answer: Result<Option<u64>, Refusal>) -> io::Result<()> {
+// A step's answer, and the cursor: the sequence number yielded last, if any; position, epoch.
+fn print_step(rt: &impl Print, answer: Result<Option<u64>, Refusal>, c: Cursor) -> io::Result<()> {
     match answer {
-        Ok(Some(pos)) => {
-            rt.write_all(b"at")?;
-            print_number(rt, pos)
-        },
-        Ok(None) => rt.write_all(b"end"),
-        Err(q) => {
-            rt.write_all(b"refused")?;
-            print_number(rt, u64::from(q))
-        },
+        Ok(Some(pos)) => print!(rt; "at {pos}")?,
+        Ok(None) => print!(rt; "end")?,
+        Err(q) => print!(rt; "refused {}", u64::from(q))?,
+    }
+    match c.last {
+        None => println!(rt; " cursor never {} {}", c.pos, c.epoch),
+        Some(n) => println!(rt; " cursor {} {} {}", n, c.pos, c.epoch),
     }
 }
 
@@ -242,8 +217,7 @@ impl Small {
         };
         for _ in 0..5 {
             let answer = collections_maps::next(&view, w, &mut cursor);
-            print_answer(rt, answer)?;
-            print_cursor(rt, cursor)?;
+            print_step(rt, answer, cursor)?;
         }
         Ok(())
     }

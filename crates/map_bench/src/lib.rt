@@ -1,4 +1,5 @@
 // The map store's calls in loops, for bench/map: a Rust or C caller keeps the store's record in seven words between the calls.
+// A function for each workload, which C calls by its name.
 #![tactic(auto)]
 
 ghost use Rattle.std.specs.Prelude.{◌≡◌, length};

@@ -60,6 +60,7 @@ struct Words {
     ghost small: { (base < 256) × (after < 256) × (count < 65536) },
 }
 
+// One of three things, not a value or none.
 #[derive(Clone, Copy)]
 enum Turn {
     Call(Command),
@@ -102,13 +103,6 @@ impl Digest {
         self.mix_flag(x.is_some());
         if let Some(w) = x {
             self.mix_word(w);
-        }
-    }
-
-    fn mix_position(&mut self, found: Option<usize>) {
-        self.mix_flag(found.is_some());
-        if let Some(pos) = found {
-            self.mix_word(pos as u64);
         }
     }
 
@@ -176,11 +170,10 @@ impl Replay<'_> {
     }
 
     fn put(&mut self, hash: u64, key: u64, value: u64) {
-        let found = self.map().find(self.traced, hash, key);
-        match found {
+        match self.map().find(self.traced, hash, key) {
             Some(pos) => {
                 self.store.set_value(self.cells, pos, value);
-                self.digest.mix_position(found);
+                self.digest.mix_option(Some(pos as u64));
             }
             None => self.insert(hash, key, value),
         }
@@ -188,7 +181,7 @@ impl Replay<'_> {
 
     fn find(&mut self, hash: u64, key: u64) {
         let found = self.map().find(self.traced, hash, key);
-        self.digest.mix_position(found);
+        self.digest.mix_option(found.map(|pos| pos as u64));
     }
 
     // Removal by key, where cells are left.
@@ -237,7 +230,7 @@ impl Replay<'_> {
     fn step(&mut self, cursor: Cursor) {
         let stepped = self.map().step(cursor);
         let moved = stepped.cursor;
-        self.digest.mix_position(stepped.found);
+        self.digest.mix_option(stepped.found.map(|pos| pos as u64));
         self.digest.mix_word(moved.pos as u64);
         self.digest.mix_word(u64::from(moved.epoch));
         self.digest.mix_option(moved.last);
@@ -273,12 +266,13 @@ impl Replay<'_> {
     }
 
     // The commands from `at` on, up to `end` or the first that is none.
-    fn run(&mut self, input: &[u8], from: usize, end: usize)
+    fn run(&mut self, input: Input, from: usize, end: usize)
         requires { end < 900000 }
     {
         let mut at = from;
+        // How far a command goes is known when it is read.
         while at < end {
-            let Some((command, size)) = command_at(input, at) else {
+            let Some((command, size)) = input.command_at(at) else {
                 return;
             };
             self.command(command);
@@ -286,15 +280,15 @@ impl Replay<'_> {
         }
     }
 
-    fn run_macro(&mut self, input: &[u8], k: usize)
+    fn run_macro(&mut self, input: Input, k: usize)
         requires { k < 256 }
     {
-        let from = macro_at(input, k);
+        let from = input.macro_at(k);
         self.run(input, from, from + 32);
     }
 
     // Word x of the list, on a new map: the macros that its digits name, and the one after them.
-    fn sequence(&mut self, input: &[u8], x: usize, list: Words)
+    fn sequence(&mut self, input: Input, x: usize, list: Words)
         requires { 0 < list.base }
     {
         self.clear(false);
@@ -307,7 +301,7 @@ impl Replay<'_> {
     }
 
     // The words of a list; a line after every `count` of them.
-    fn words(&mut self, rt: &impl Print, input: &[u8], list: Words) -> io::Result<()> {
+    fn words(&mut self, rt: &impl Print, input: Input, list: Words) -> io::Result<()> {
         for k in 0..list.base {
             for x in k * list.count..(k + 1) * list.count {
                 self.sequence(input, x, list);
@@ -317,7 +311,7 @@ impl Replay<'_> {
         Ok(())
     }
 
-    fn turn(&mut self, rt: &impl Print, input: &[u8], turn: Turn) -> io::Result<()> {
+    fn turn(&mut self, rt: &impl Print, input: Input, turn: Turn) -> io::Result<()> {
         match turn {
             Turn::Call(command) => self.command(command),
             Turn::Line => {
@@ -330,12 +324,13 @@ impl Replay<'_> {
     }
 
     // The input behind the macros, up to its end or the first byte that begins nothing.
-    fn turns(&mut self, rt: &impl Print, input: &[u8]) -> io::Result<()>
-        requires { length input.now ≤ 131072 }
+    fn turns(&mut self, rt: &impl Print, input: Input) -> io::Result<()>
+        requires { length input.bytes.now ≤ 131072 }
     {
-        let mut at = macro_at(input, number(input, 1));
-        while at < input.len() {
-            let Some((turn, size)) = turn_at(input, at) else {
+        let mut at = input.macro_at(input.number(1));
+        // How far a turn goes is known when it is read.
+        while at < input.bytes.len() {
+            let Some((turn, size)) = input.turn_at(at) else {
                 return Ok(());
             };
             self.turn(rt, input, turn)?;
@@ -345,43 +340,11 @@ impl Replay<'_> {
     }
 }
 
-// The input's byte at i, or 0 outside.
-fn byte(input: &[u8], i: usize) -> u8 {
-    if i < input.len() { input[i] } else { 0 }
-}
-
-fn number(input: &[u8], i: usize) -> usize
-    ensures { result < 256 }
-{
-    usize::from(byte(input, i))
-}
-
-// The word that the byte at i names.
-fn word(input: &[u8], i: usize) -> u64 {
-    let at = 2 + 8 * number(input, i);
-    u64::from_le_bytes([
-        byte(input, at),
-        byte(input, at + 1),
-        byte(input, at + 2),
-        byte(input, at + 3),
-        byte(input, at + 4),
-        byte(input, at + 5),
-        byte(input, at + 6),
-        byte(input, at + 7),
-    ])
-}
-
-fn small(input: &[u8], i: usize) -> u64
-    requires { i < 1000000 }
-    ensures { result < 65536 }
-{
-    u64::from(byte(input, i)) + 256 * u64::from(byte(input, i + 1))
-}
-
 // A small key's hash: scattered, crowded, or with a high half.
 fn hash_of(key: u64, way: u8) -> u64
     requires { key < 65536 }
 {
+    // The input says the way as a byte, here and nowhere else.
     match way {
         0 => key * 2654435761 % 4294967296,
         1 => key % 64,
@@ -389,101 +352,138 @@ fn hash_of(key: u64, way: u8) -> u64
     }
 }
 
-fn macro_at(input: &[u8], k: usize) -> usize
-    requires { k < 256 }
-    ensures { result ≤ 10210 }
-{
-    2 + 8 * number(input, 0) + 32 * k
+// The input by place: a byte outside it is 0.
+#[derive(Clone, Copy)]
+struct Input<'a> {
+    bytes: &'a [u8],
 }
 
-// The command at a byte, and its bytes.
-fn command_at(input: &[u8], at: usize) -> Option<(Command, usize)>
-    requires { at < 900000 }
-    ensures { IfSome result (λ p. (0 < p.1) × (p.1 ≤ 5)) }
-{
-    let a = word(input, at + 1);
-    let b = word(input, at + 2);
-    let key = small(input, at + 1);
-    let hash = hash_of(key, byte(input, at + 3));
-    let value = word(input, at + 3);
-    Some(match byte(input, at) {
-        1 => {
-            let traced = byte(input, at + 1) == 1;
-            (Command::New { traced }, 2)
-        }
-        2 => (
-            Command::Put {
-                hash: a,
-                key: b,
-                value,
-            },
-            4,
-        ),
-        3 => (
-            Command::Insert {
-                hash: a,
-                key: b,
-                value,
-            },
-            4,
-        ),
-        4 => (Command::Find { hash: a, key: b }, 3),
-        5 => (Command::RemoveKey { hash: a, key: b }, 3),
-        6 => (Command::RemoveAt(a), 2),
-        7 => (Command::Entry(a), 2),
-        8 => (Command::SetValue { pos: a, value: b }, 3),
-        9 => (Command::Note(a), 2),
-        10 => (Command::NextKey, 1),
-        11 => (Command::Growth(a), 2),
-        12 => (Command::Step(cursor_at(input, at)), 5),
-        13 => (Command::StepOn, 1),
-        14 => (Command::Entries, 1),
-        15 => {
-            let value = word(input, at + 4);
-            (Command::Put { hash, key, value }, 5)
-        }
-        16 => (Command::RemoveKey { hash, key }, 4),
-        19 => (Command::Search(a), 2),
-        _ => return None,
-    })
-}
-
-// The cursor of a step whose command stands at a byte.
-fn cursor_at(input: &[u8], at: usize) -> Cursor
-    requires { at < 900000 }
-{
-    let last = word(input, at + 2);
-    Cursor {
-        last: if byte(input, at + 1) == 1 {
-            Some(last)
-        } else {
-            None
-        },
-        pos: word(input, at + 3) as usize,
-        epoch: (word(input, at + 4) % 4294967296) as u32,
+impl Input<'_> {
+    fn byte(self, i: usize) -> u8 {
+        self.bytes.get(i).copied().unwrap_or(0)
     }
-}
 
-// What stands at a byte outside the macros, and its bytes.
-fn turn_at(input: &[u8], at: usize) -> Option<(Turn, usize)>
-    requires { at < 900000 }
-    ensures { IfSome result (λ p. (0 < p.1) × (p.1 ≤ 6)) }
-{
-    match byte(input, at) {
-        17 => Some((Turn::Line, 1)),
-        18 => {
-            let list = Words {
-                digits: number(input, at + 1),
-                base: number(input, at + 2),
-                after: number(input, at + 3),
-                count: small(input, at + 4) as usize,
-            };
-            Some((Turn::List(list), 6))
+    fn number(self, i: usize) -> usize
+        ensures { result < 256 }
+    {
+        usize::from(self.byte(i))
+    }
+
+    // The word that the byte at i names.
+    fn word(self, i: usize) -> u64 {
+        let at = 2 + 8 * self.number(i);
+        u64::from_le_bytes([
+            self.byte(at),
+            self.byte(at + 1),
+            self.byte(at + 2),
+            self.byte(at + 3),
+            self.byte(at + 4),
+            self.byte(at + 5),
+            self.byte(at + 6),
+            self.byte(at + 7),
+        ])
+    }
+
+    fn small(self, i: usize) -> u64
+        requires { i < 1000000 }
+        ensures { result < 65536 }
+    {
+        u64::from(self.byte(i)) + 256 * u64::from(self.byte(i + 1))
+    }
+
+    fn macro_at(self, k: usize) -> usize
+        requires { k < 256 }
+        ensures { result ≤ 10210 }
+    {
+        2 + 8 * self.number(0) + 32 * k
+    }
+
+    // The command at a byte, and its bytes.
+    fn command_at(self, at: usize) -> Option<(Command, usize)>
+        requires { at < 900000 }
+        ensures { IfSome result (λ p. (0 < p.1) × (p.1 ≤ 5)) }
+    {
+        let a = self.word(at + 1);
+        let b = self.word(at + 2);
+        let key = self.small(at + 1);
+        let hash = hash_of(key, self.byte(at + 3));
+        let value = self.word(at + 3);
+        // What a byte means stands here once, as rows.
+        Some(match self.byte(at) {
+            1 => {
+                let traced = self.byte(at + 1) == 1;
+                (Command::New { traced }, 2)
+            }
+            2 => (
+                Command::Put {
+                    hash: a,
+                    key: b,
+                    value,
+                },
+                4,
+            ),
+            3 => (
+                Command::Insert {
+                    hash: a,
+                    key: b,
+                    value,
+                },
+                4,
+            ),
+            4 => (Command::Find { hash: a, key: b }, 3),
+            5 => (Command::RemoveKey { hash: a, key: b }, 3),
+            6 => (Command::RemoveAt(a), 2),
+            7 => (Command::Entry(a), 2),
+            8 => (Command::SetValue { pos: a, value: b }, 3),
+            9 => (Command::Note(a), 2),
+            10 => (Command::NextKey, 1),
+            11 => (Command::Growth(a), 2),
+            12 => (Command::Step(self.cursor_at(at)), 5),
+            13 => (Command::StepOn, 1),
+            14 => (Command::Entries, 1),
+            15 => {
+                let value = self.word(at + 4);
+                (Command::Put { hash, key, value }, 5)
+            }
+            16 => (Command::RemoveKey { hash, key }, 4),
+            19 => (Command::Search(a), 2),
+            _ => return None,
+        })
+    }
+
+    // The cursor of a step whose command stands at a byte.
+    fn cursor_at(self, at: usize) -> Cursor
+        requires { at < 900000 }
+    {
+        Cursor {
+            last: (self.byte(at + 1) == 1).then_some(self.word(at + 2)),
+            pos: self.word(at + 3) as usize,
+            epoch: (self.word(at + 4) % 4294967296) as u32,
         }
-        _ => match command_at(input, at) {
-            Some((command, size)) => Some((Turn::Call(command), size)),
-            None => None,
-        },
+    }
+
+    // What stands at a byte outside the macros, and its bytes.
+    fn turn_at(self, at: usize) -> Option<(Turn, usize)>
+        requires { at < 900000 }
+        ensures { IfSome result (λ p. (0 < p.1) × (p.1 ≤ 6)) }
+    {
+        // What a byte means stands here once, as rows.
+        match self.byte(at) {
+            17 => Some((Turn::Line, 1)),
+            18 => {
+                let list = Words {
+                    digits: self.number(at + 1),
+                    base: self.number(at + 2),
+                    after: self.number(at + 3),
+                    count: self.small(at + 4) as usize,
+                };
+                Some((Turn::List(list), 6))
+            }
+            _ => {
+                let (command, size) = self.command_at(at)?;
+                Some((Turn::Call(command), size))
+            }
+        }
     }
 }
 
@@ -502,7 +502,7 @@ fn run_input(rt: &impl Print, cells: &mut [u64], input: &[u8]) -> io::Result<()>
         digest: Digest { value: 0 },
         traced: false,
     };
-    r.turns(rt, input)
+    r.turns(rt, Input { bytes: input })
 }
 
 fn main(rt: HostRuntime) -> io::Result<()> {

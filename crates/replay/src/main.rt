@@ -42,6 +42,7 @@ fn play(
 ) -> io::Result<()>
     requires { SessionReady input.now (lend slots.old scalars.old list.old directory.old cells.old marks.old order.old table.old roots.old words.old bytes.old places.old out.old) session }
 {
+    // How far a run goes is known when it is done.
     while session.at < input.len() {
         session.run(
             slots, scalars, list, directory, cells, marks, order, table, roots, words, bytes,

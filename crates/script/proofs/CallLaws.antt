@@ -19,7 +19,7 @@ use Rattle.heap.specs.declared.Heap.{Heap}
 use Rattle.heap.specs.State.{State, model_of, state}
 use Rattle.heap.specs.Good.{Ready}
 use Rattle.text.specs.Puts.{Puts}
-use Rattle.text.proofs.PutsLaws.{puts-same}
+use Rattle.text.proofs.PutsLaws.{puts-same, puts-within}
 use Rattle.answers.specs.declared.Shown.{Shown}
 use Rattle.commands.specs.declared.Operands.{Operands}
 use Rattle.commands.specs.declared.Form.{Form}
@@ -34,7 +34,6 @@ use Rattle.script.specs.Lines.{adjusted, buffer_text, lent_text, line_text}
 use Rattle.script.specs.Replay.{Play, acted, called, ended}
 use Rattle.script.specs.Turns.{Buffers, EndLine, Goes, Roomy, SessionReady, layout_in, lists_in, play_of, seated_in}
 use Rattle.script.proofs.ActLaws.{silent}
-use Rattle.script.proofs.SessionLaws.{puts-within}
 use Rattle.commands.specs.declared.Memory.{Memory}
 
 -- what is lent are the fronts of the cells, the bytes and the places

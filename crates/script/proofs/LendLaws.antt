@@ -1,10 +1,7 @@
 -- The memory lent to a call. Assumes nothing.
-use Prim.Native.Nat.{ℕ, zero, suc, ◌+◌, ◌-◌, ◌≤◌, ◌<◌, min}
-use mathlib.Core.Path.{◌≡◌, refl, sym, ap, subst, ◌∙◌}
-use mathlib.Core.Logic.{◌≢◌, ◌⊎◌, ⊎_elim}
-use mathlib.Core.Bool.{Bool, true, false, cond}
+use Prim.Native.Nat.{ℕ, ◌+◌, ◌-◌, ◌≤◌, ◌<◌}
+use mathlib.Core.Path.{◌≡◌, refl, sym, ap, ◌∙◌}
 use mathlib.Core.List.{List, [], ◌∷◌, ◌++◌}
-use mathlib.Core.Option.{none, some}
 use native.Mathlib.Omega.{arith}
 use native.Mathlib.Numerals.{add-one}
 use lib.ListN.{length, set, take, drop, replicate, length-append, length-drop, length-set}
@@ -14,9 +11,9 @@ use Rattle.model.specs.Opening.{opened}
 use Rattle.commands.specs.declared.Operands.{Operands}
 use Rattle.script.specs.declared.Command.{Command}
 use Rattle.script.specs.Parse.{Called}
-use Rattle.script.specs.Reads.{called_is}
-use Rattle.script.specs.Replay.{Play, bytes_for, frames_for, lendable, numbered, places_for, words_for}
-use Rattle.script.specs.Turns.{Fronts, LendsWords, own_bytes}
+use Rattle.script.specs.Reads.{called_as}
+use Rattle.script.specs.Replay.{Play, bytes_for, frames_for, numbered, places_for, words_for}
+use Rattle.script.specs.Turns.{Fronts, LendsWords}
 use Rattle.commands.specs.declared.Memory.{Memory}
 use Rattle.commands.specs.declared.Memory.TheVariants.{Own, Buffer, Places, Roots}
 
@@ -56,33 +53,6 @@ filling_end {new = new} {n = n} {i = i} g h =
 
 -- ---- the lists that a command is given
 
-pub record CalledAs (input ws : List ℕ) (k : Command) (c : Called) : Type 0 where
-  pub known : k.known ≡ true
-  pub operands : c.operands ≡ k.operands
-  pub words : c.words ≡ take k.words ws
-  pub frames : c.frames ≡ take k.frames (drop k.words ws)
-  pub bytes : c.bytes ≡ own_bytes input k
-  pub rest : c.rest ≡ drop k.next input
-
-abbrev pub called_as : List ℕ → List ℕ → Command → Called
-called_as input words k = record { operands = k.operands; words = take k.words words; frames = take k.frames (drop k.words words); bytes = own_bytes input k; rest = drop k.next input }
-
-pub called_is_lem : (input words : List ℕ) (k : Command) → k.known ≡ true → called_is input words k ≡ some (called_as input words k)
-unfolding called_is
-called_is_lem input words k e = rw e
-
-pub called_not : (input words : List ℕ) (k : Command) → k.known ≡ false → called_is input words k ≡ none
-unfolding called_is
-called_not input words k e = rw e
-
-pub called_parts : (input words : List ℕ) (k : Command) (c : Called) → called_is input words k ≡ some c → CalledAs input words k c
-unfolding called_is
-called_parts input words k c e = go k.known refl e
-  where
-    go : (b : Bool) → k.known ≡ b → cond b (some (called_as input words k)) none ≡ some c → CalledAs input words k c
-    go true z q = let r : called_as input words k ≡ c = cc in rw (← r) record { known = z; operands = refl; words = refl; frames = refl; bytes = refl; rest = refl }
-    go false z q = let w : ◌≡◌ {A = ℕ} 0 1 = cc in absurd (omega arith)
-
 words_early : (m : Memory) (p : Play) (c : Called) → (m ≡ Roots → ⊥) → (words_for m p c ≡ c.words) × (frames_for m c ≡ c.frames)
 unfolding words_for frames_for
 words_early Own p c h = (refl, refl)
@@ -91,13 +61,12 @@ words_early Places p c h = (refl, refl)
 words_early Roots p c h = absurd (h refl)
 
 -- a command's own words, as they were read
-pub lends_own : (m : Memory) (p : Play) (input words : List ℕ) (k : Command) (c : Called) → called_is input words k ≡ some c → (m ≡ Roots → ⊥) → k.words + k.frames ≤ length words →
-    LendsWords (words_for m p c) (frames_for m c) words k.words (k.words + k.frames) words
-lends_own m p input words k c e h l =
-    let q = called_parts input words k c e in
+pub lends_own : (m : Memory) (p : Play) (input words : List ℕ) (k : Command) → (m ≡ Roots → ⊥) → k.words + k.frames ≤ length words →
+    LendsWords (words_for m p (called_as input words k)) (frames_for m (called_as input words k)) words k.words (k.words + k.frames) words
+lends_own m p input words k h l =
     let z : k.words + k.frames - k.words ≡ k.frames = omega arith in
-    let w = words_early m p c h in
-    record { size = refl; order = omega arith; inside = l; words = sym (w.0 ∙ q.words); frames = rw z (sym (w.1 ∙ q.frames)) }
+    let w = words_early m p (called_as input words k) h in
+    record { size = refl; order = omega arith; inside = l; words = sym w.0; frames = rw z (sym w.1) }
 
 pub lends_roots : (m : Memory) (p : Play) (c : Called) {roots old new : List ℕ} → p.roots ≡ roots → m ≡ Roots → Fronts roots old (length roots) new →
     LendsWords (words_for m p c) (frames_for m c) old (length roots) (length roots) new
@@ -127,9 +96,6 @@ fronts ws old n {part} h l e = record {
   inside = omega (arith, length-append part (drop n old), l, length-drop n old);
   front = take_at part (drop n old) n l ∙ e;
 }
-
-pub lends_places : (m : Memory) (o : Operands) {size n : ℕ} {old new : List ℕ} → ((p : Play) → p.heap.table.size ≡ size → n ≡ places_for m p o) → Fronts (numbered n) old n new → (p : Play) → p.heap.table.size ≡ size → Fronts (numbered (places_for m p o)) old n new
-lends_places m o {size} {n} {old} {new} k f p e = subst (λ (x : ℕ). Fronts (numbered x) old n new) (k p e) f
 
 -- some play has a table of the size, so that the count says itself that it is small
 pub few_places : (m : Memory) (o : Operands) {size n : ℕ} → ((p : Play) → p.heap.table.size ≡ size → n ≡ places_for m p o) → (m ≡ Places → o.a ≤ 65536) → size ≤ 65536 → n ≤ 65536

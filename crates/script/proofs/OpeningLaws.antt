@@ -23,13 +23,14 @@ use Rattle.heap.specs.State.{State, model_of, state}
 use Rattle.heap.specs.Opens as Heaps
 use Rattle.heap.specs.Opens.{Beside, Opens, accepts, beside, new_heap, opening_of, room_for}
 use Rattle.text.specs.Puts.{Puts}
+use Rattle.text.proofs.PutsLaws.{puts-within}
 use Rattle.commands.specs.declared.Operands.{Operands}
 use Rattle.commands.specs.Table.{opening_in}
 use Rattle.script.specs.declared.Session.{Session}
 use Rattle.script.specs.declared.NotStarted.TheVariants as Not
 use Rattle.script.specs.Replay.{opened_by, seatable}
 use Rattle.script.specs.Turns.{Buffers, EndLine, Goes, LargeLine, Roomy, SessionReady, Starts, first_opening, first_session, heap_room, large_opening, moved_to, opens_first, play_of, refused_opening, roomy, script_room, started_by, started_is}
-use Rattle.script.proofs.SessionLaws.{ended_goes, kept_goes, puts-within, with}
+use Rattle.script.proofs.SessionLaws.{ended_goes, kept_goes, with}
 
 and-true : (b : Bool) → b && true ≡ b
 and-true true = refl

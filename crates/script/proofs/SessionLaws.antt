@@ -1,15 +1,16 @@
 -- Sessions between commands: the lent buffers, roots, the end of a script. Assumes nothing.
 use Prim.Native.Nat.{ℕ, ◌+◌, ◌≤◌, ◌<◌}
-use mathlib.Core.Path.{◌≡◌, refl, sym, ap, subst, ◌∙◌}
+use mathlib.Core.Path.{◌≡◌, refl, sym, ap, subst}
 use mathlib.Core.List.{List, [], ◌∷◌}
 use native.Mathlib.Omega.{arith}
 use native.Mathlib.Numerals.{add-one}
-use lib.ListN.{length, set, take, drop, length-append, length-set, length-take}
+use lib.ListN.{length, set, take, drop, length-set}
 use lib.Seq.{drop-length, length-take-le, take-suc-set}
 use Rattle.history.proofs.Facts.{leb_no, leb_yes}
 use Rattle.model.specs.Callsheet.{digits, printed}
 use Rattle.heap.specs.State.{model_of}
 use Rattle.text.specs.Puts.{Puts}
+use Rattle.text.proofs.PutsLaws.{puts-within}
 use Rattle.script.specs.declared.Session.{Session}
 use Rattle.script.specs.Replay.{Turned, ended, rooted}
 use Rattle.script.specs.Turns.{Buffers, EndLine, Goes, Roomy, RootLine, SessionReady, moved_to, play_of}
@@ -32,12 +33,6 @@ with u roots words bytes places out = record {
   places = places;
   out = out;
 }
-
--- a text stands in its buffer
-pub puts-within : {t out : List ℕ} {at : ℕ} {out' : List ℕ} {r : ℕ} → at ≤ length out → Puts t out at out' r → r ≤ length out'
-puts-within {t} {out} {at} {out'} {r} l p =
-    let a : length (take r out') ≡ at + length t = ap length p.text ∙ length-append (take at out) t ∙ rw (length-take-le at out l) in
-    omega (arith, p.ends, a, length-take r out')
 
 -- the lengths that the lent buffers keep
 pub record Lengths (input : List ℕ) (u : Buffers) (roots words bytes places out : List ℕ) : Type 0 where

@@ -19,11 +19,11 @@ use Rattle.commands.specs.Table.{act_in, act_of, groups, memory_of, opening_in, 
 use Rattle.commands.specs.Promise.{lists}
 use Rattle.script.specs.declared.Command.{Command}
 use Rattle.script.specs.declared.Session.{Session}
+use Rattle.std.proofs.Common.{Option, None, Some}
 use Rattle.script.specs.Parse.{Called, called_by}
-use Rattle.script.specs.Reads.{Reads, called_is}
+use Rattle.script.specs.Reads.{Reads, called_as, called_is}
 use Rattle.script.specs.Replay.{Play, Turned, acted, bytes_for, ended, frames_for, lendable, lists_for, numbered, opened_by, places_for, rooted, turn_by, turn_of, words_for}
-use Rattle.script.specs.Turns.{Buffers, EndLine, Fronts, Goes, LendsWords, Placed, SessionReady, Turns, own_bytes, play_of, turn_at}
-use Rattle.script.proofs.LendLaws.{called_as, called_is_lem, called_not}
+use Rattle.script.specs.Turns.{Buffers, EndLine, Fronts, Goes, LendsWords, SessionReady, Turns, own_bytes, play_of, turn_at}
 use Rattle.script.proofs.SessionLaws.{ended_goes, ready_with, with}
 
 pub part-short : (n k : ℕ) (l : List ℕ) → length (take n (drop k l)) ≤ length l
@@ -58,30 +58,30 @@ memory-is : (code : ℕ) (t : Shape) → t ≡ shape_of code → t.memory ≡ me
 unfolding shape_of
 memory-is code t es = ap (λ (y : Shape). y.memory) es
 
-module _ (code : ℕ) (t : Shape) (es : t ≡ shape_of code) (input : List ℕ) (p : Play) (ws : List ℕ) (k : Command) (known : k.known ≡ true) {b : Bool} (eb : b ≡ lendable t.memory k.operands) where
-  pub lent-ends : b ≡ false → turn_by p code (called_is input ws k) ≡ ended p
+module _ (code : ℕ) (t : Shape) (es : t ≡ shape_of code) (input : List ℕ) (p : Play) (ws : List ℕ) (k : Command) {b : Bool} (eb : b ≡ lendable t.memory k.operands) where
+  pub lent-ends : b ≡ false → turn_by p code (some (called_as input ws k)) ≡ ended p
   unfolding turn_by
   lent-ends f =
       let l : lendable (memory_of code) k.operands ≡ false = rw (memory-is code t es) at (sym eb ∙ f) in
-      rw (called_is_lem input ws k known, l)
+      rw l
 
   pub lent_acts : {words bytes places old older oldest : List ℕ} (w e m n : ℕ) → b ≡ true → LendsWords (words_for t.memory p (called_as input ws k)) (frames_for t.memory (called_as input ws k)) old w e words →
       Fronts (bytes_for t.memory (called_as input ws k)) older m bytes → Fronts (numbered (places_for t.memory p k.operands)) oldest n places →
-      turn_by p code (called_is input ws k) ≡ acted p code k.operands (lists (take w words) (take (e - w) (drop w words)) (take m bytes) (take n places)) (drop k.next input) (act_of code k.operands (lists (take w words) (take (e - w) (drop w words)) (take m bytes) (take n places)))
+      turn_by p code (some (called_as input ws k)) ≡ acted p code k.operands (lists (take w words) (take (e - w) (drop w words)) (take m bytes) (take n places)) (drop k.next input) (act_of code k.operands (lists (take w words) (take (e - w) (drop w words)) (take m bytes) (take n places)))
   unfolding turn_by lists_for
   lent_acts w e m n f x y z =
       let l : lendable (memory_of code) k.operands ≡ true = rw (memory-is code t es) at (sym eb ∙ f) in
-      rw (called_is_lem input ws k known, l, x.words, x.frames, y.front, z.front, memory-is code t es)
+      rw (l, x.words, x.frames, y.front, z.front, memory-is code t es)
 
-module _ (code : ℕ) (t : Shape) (es : t ≡ shape_of code) {input : List ℕ} {u : Buffers} {p : Session} (k : Command) (known : k.known ≡ true) {b : Bool} (eb : b ≡ lendable t.memory k.operands) (g : SessionReady input u p) where
-  pub lent-ended : {out : List ℕ} {r : Session} → b ≡ false → p.at < length input → EndLine p (length input) u.out out r → Goes input (turn_by (play_of input u p) code (called_is input u.words k)) u p (with u u.roots u.words u.bytes u.places out) r
-  lent-ended f l e = rw (lent-ends code t es input (play_of input u p) u.words k known eb f) (ended_goes g l refl refl refl e)
+module _ (code : ℕ) (t : Shape) (es : t ≡ shape_of code) {input : List ℕ} {u : Buffers} {p : Session} (k : Command) {b : Bool} (eb : b ≡ lendable t.memory k.operands) (g : SessionReady input u p) where
+  pub lent-ended : {out : List ℕ} {r : Session} → b ≡ false → p.at < length input → EndLine p (length input) u.out out r → Goes input (turn_by (play_of input u p) code (some (called_as input u.words k))) u p (with u u.roots u.words u.bytes u.places out) r
+  lent-ended f l e = rw (lent-ends code t es input (play_of input u p) u.words k eb f) (ended_goes g l refl refl refl e)
 
   module _ {words bytes : List ℕ} (w e m n : ℕ)
-      (fw : (q : Play) (i : List ℕ) (c : Called) → called_is i u.words k ≡ some c → q.roots ≡ take p.count u.roots → LendsWords (words_for t.memory q c) (frames_for t.memory c) u.words w e words)
+      (fw : (q : Play) (i : List ℕ) → q.roots ≡ take p.count u.roots → LendsWords (words_for t.memory q (called_as i u.words k)) (frames_for t.memory (called_as i u.words k)) u.words w e words)
       (fb : (c : Called) → c.operands ≡ k.operands → c.bytes ≡ own_bytes input k → Fronts (bytes_for t.memory c) u.bytes m bytes) where
     words-lent : LendsWords (words_for t.memory (play_of input u p) (called_as input u.words k)) (frames_for t.memory (called_as input u.words k)) u.words w e words
-    words-lent = fw (play_of input u p) input (called_as input u.words k) (called_is_lem input u.words k known) refl
+    words-lent = fw (play_of input u p) input refl
 
     bytes-lent : Fronts (bytes_for t.memory (called_as input u.words k)) u.bytes m bytes
     bytes-lent = fb (called_as input u.words k) refl refl
@@ -91,45 +91,40 @@ module _ (code : ℕ) (t : Shape) (es : t ≡ shape_of code) {input : List ℕ} 
 
     pub lent_goes : {places : List ℕ} {x v : Buffers} {r : Session} → b ≡ true → ((q : Play) → q.heap.table.size ≡ p.heap.size → Fronts (numbered (places_for t.memory q k.operands)) u.places n places) → x.out ≡ u.out →
         Goes input (acted (play_of input u p) code k.operands (lists (take w words) (take (e - w) (drop w words)) (take m bytes) (take n places)) (drop k.next input) (act_of code k.operands (lists (take w words) (take (e - w) (drop w words)) (take m bytes) (take n places)))) x p v r →
-        Goes input (turn_by (play_of input u p) code (called_is input u.words k)) u p v r
+        Goes input (turn_by (play_of input u p) code (some (called_as input u.words k))) u p v r
     unfolding model_of
-    lent_goes f fp eo q = rw (lent_acts code t es input (play_of input u p) u.words k known eb w e m n f words-lent bytes-lent (fp (play_of input u p) refl)) (goes_from eo q)
+    lent_goes f fp eo q = rw (lent_acts code t es input (play_of input u p) u.words k eb w e m n f words-lent bytes-lent (fp (play_of input u p) refl)) (goes_from eo q)
 
 -- ---- the command at a place
 
-pub placed : {input : List ℕ} {p : Session} {k : Command} {ws : List ℕ} → Reads input p.at ws k → Placed input p (length ws) k
-placed d = record { onward = d.onward; within = d.within; words = d.words; bytes = d.bytes; inside = d.inside }
+module _ {input : List ℕ} (u : Buffers) (p : Session) (ws : List ℕ) {o : Option Command} (d : Reads input p.at ws o) where
+  turn_missing : o ≡ None → turn_at input u p ≡ ended (play_of input u p)
+  unfolding turn_of turn_by called_is
+  turn_missing e = let z : none ≡ called_by (get_or input p.at 0) (drop (p.at + 1) input) = rw e at d.is in rw (← z)
 
-module _ {input : List ℕ} (u : Buffers) (p : Session) (k : Command) (ws : List ℕ) (d : Reads input p.at ws k) where
-  pub turn_missing : k.known ≡ false → turn_at input u p ≡ ended (play_of input u p)
-  unfolding turn_of turn_by
-  turn_missing e = let z : none ≡ called_by (get_or input p.at 0) (drop (p.at + 1) input) = sym (called_not input ws k e) ∙ d.is in rw (← z)
+  module _ (k : Command) (e : o ≡ Some k) where
+    turn_called : turn_at input u p ≡ turn_by (play_of input u p) (get_or input p.at 0) (some (called_as input ws k))
+    unfolding turn_of called_is
+    turn_called = let z : some (called_as input ws k) ≡ called_by (get_or input p.at 0) (drop (p.at + 1) input) = rw e at d.is in rw (← z)
 
-  turn_called : k.known ≡ true → turn_at input u p ≡ turn_by (play_of input u p) (get_or input p.at 0) (some (called_as input ws k))
-  unfolding turn_of
-  turn_called e = let z : some (called_as input ws k) ≡ called_by (get_or input p.at 0) (drop (p.at + 1) input) = sym (called_is_lem input ws k e) ∙ d.is in rw (← z)
+    turn_opens : get_or input p.at 0 ≡ 0 → turn_at input u p ≡ opened_by (play_of input u p) (opening_in k.operands (own_bytes input k)) (drop k.next input) (open_heap (opening_in k.operands (own_bytes input k)))
+    unfolding turn_by lists_for bytes_for lendable acted memory_of act_of act_in choose table joined groups session_rows
+    turn_opens z = turn_called ∙ rw z
 
-  pub turn_read : (code : ℕ) → code ≡ get_or input p.at 0 → turn_by (play_of input u p) code (called_is input ws k) ≡ turn_at input u p
-  unfolding turn_of
-  turn_read code e = rw (e, d.is)
+    turn_roots : get_or input p.at 0 ≡ 0x0B → turn_at input u p ≡ rooted (play_of input u p) k.operands.a (drop k.next input)
+    unfolding turn_by lists_for lendable acted memory_of act_of act_in choose table joined groups session_rows
+    turn_roots z = turn_called ∙ rw z
 
-  pub turn_opens : k.known ≡ true → get_or input p.at 0 ≡ 0 → turn_at input u p ≡ opened_by (play_of input u p) (opening_in k.operands (own_bytes input k)) (drop k.next input) (open_heap (opening_in k.operands (own_bytes input k)))
-  unfolding turn_by lists_for bytes_for lendable acted memory_of act_of act_in choose table joined groups session_rows
-  turn_opens e z = turn_called e ∙ rw z
+module _ {input : List ℕ} {u : Buffers} {p : Session} {ws : List ℕ} {o : Option Command} (d : Reads input p.at ws o) where
+  pub turns_missing : {v : Buffers} {r : Session} → o ≡ None → Goes input (ended (play_of input u p)) u p v r → Turns input u p v r
+  turns_missing e x = rw (turn_missing u p ws d e) x
 
-  pub turn_roots : k.known ≡ true → get_or input p.at 0 ≡ 0x0B → turn_at input u p ≡ rooted (play_of input u p) k.operands.a (drop k.next input)
-  unfolding turn_by lists_for lendable acted memory_of act_of act_in choose table joined groups session_rows
-  turn_roots e z = turn_called e ∙ rw z
+  module _ {k : Command} (e : o ≡ Some k) where
+    pub turns_opens : {w v : Buffers} {r : Session} → get_or input p.at 0 ≡ 0 → w.out ≡ u.out → Goes input (opened_by (play_of input u p) (opening_in k.operands (own_bytes input k)) (drop k.next input) (open_heap (opening_in k.operands (own_bytes input k)))) w p v r → Turns input u p v r
+    turns_opens z y x = rw (turn_opens u p ws d k e z) (goes_from y x)
 
-module _ {input : List ℕ} {u : Buffers} {p : Session} {k : Command} {ws : List ℕ} (g : SessionReady input u p) (d : Reads input p.at ws k) where
-  pub turns_missing : {v : Buffers} {r : Session} → k.known ≡ false → Goes input (ended (play_of input u p)) u p v r → Turns input u p v r
-  turns_missing e x = rw (turn_missing u p k ws d e) x
+    pub turns_roots : {v : Buffers} {r : Session} → get_or input p.at 0 ≡ 0x0B → Goes input (rooted (play_of input u p) k.operands.a (drop k.next input)) u p v r → Turns input u p v r
+    turns_roots z x = rw (turn_roots u p ws d k e z) x
 
-  pub turns_opens : {w v : Buffers} {r : Session} → k.known ≡ true → get_or input p.at 0 ≡ 0 → w.out ≡ u.out → Goes input (opened_by (play_of input u p) (opening_in k.operands (own_bytes input k)) (drop k.next input) (open_heap (opening_in k.operands (own_bytes input k)))) w p v r → Turns input u p v r
-  turns_opens e z o x = rw (turn_opens u p k ws d e z) (goes_from o x)
-
-  pub turns_roots : {v : Buffers} {r : Session} → k.known ≡ true → get_or input p.at 0 ≡ 0x0B → Goes input (rooted (play_of input u p) k.operands.a (drop k.next input)) u p v r → Turns input u p v r
-  turns_roots e z x = rw (turn_roots u p k ws d e z) x
-
-  pub turns_lent : {w v : Buffers} {r : Session} → w.out ≡ u.out → Goes input (turn_by (play_of input u p) (get_or input p.at 0) (called_is input ws k)) w p v r → Turns input u p v r
-  turns_lent o x = rw (← turn_read u p k ws d (get_or input p.at 0) refl) (goes_from o x)
+    pub turns_lent : {w v : Buffers} {r : Session} → w.out ≡ u.out → Goes input (turn_by (play_of input u p) (get_or input p.at 0) (some (called_as input ws k))) w p v r → Turns input u p v r
+    turns_lent y x = rw (turn_called u p ws d k e) (goes_from y x)

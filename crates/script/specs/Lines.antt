@@ -4,32 +4,34 @@ use Rattle.model.specs.Callsheet.{decimal, digits}
 use Rattle.text.specs.Lines.{line_head}
 use Rattle.answers.specs.declared.Shown.{Shown}
 use Rattle.commands.specs.declared.Operands.{Operands}
-use Rattle.script.specs.declared.Forms.{Forms}
+use Rattle.script.specs.declared.lines.FieldForm.{FieldForm}
+use Rattle.script.specs.declared.lines.FieldForm.TheVariants.{Absent, Decimal, Hexadecimal}
+use Rattle.script.specs.declared.lines.Forms.{Forms}
 use Rattle.commands.specs.declared.Form.{Form}
 use Rattle.commands.specs.declared.Form.TheVariants.{WordAlone, Second, EntryFields, FrameFields, IteratorCursor, LentCursor}
 use Rattle.commands.specs.declared.Memory.{Memory}
 use Rattle.commands.specs.declared.Memory.TheVariants.{Own, Buffer, Places, Roots}
 
--- how x, y, z, u and v are shown: 0 not at all, 1 in decimal, 2 in hexadecimal
-abbrev pub forms : ℕ → ℕ → ℕ → ℕ → ℕ → Forms
+-- how x, y, z, u and v are shown
+abbrev pub forms : FieldForm → FieldForm → FieldForm → FieldForm → FieldForm → Forms
 forms x y z u v = record { x = x; y = y; z = z; u = u; v = v }
 
 unfoldable pub accepted_forms : Form → ℕ → Forms
-accepted_forms WordAlone x = forms 0 0 0 0 0
-accepted_forms Second x = forms 1 0 0 0 0
-accepted_forms EntryFields x = forms 2 2 1 1 0
-accepted_forms FrameFields x = forms 1 1 2 0 0
-accepted_forms IteratorCursor x = cond (eqb x 7) (forms 1 1 1 1 0) (forms 1 0 0 0 0)
-accepted_forms LentCursor x = forms 1 1 1 1 1
+accepted_forms WordAlone x = forms Absent Absent Absent Absent Absent
+accepted_forms Second x = forms Decimal Absent Absent Absent Absent
+accepted_forms EntryFields x = forms Hexadecimal Hexadecimal Decimal Decimal Absent
+accepted_forms FrameFields x = forms Decimal Decimal Hexadecimal Absent Absent
+accepted_forms IteratorCursor x = cond (eqb x 7) (forms Decimal Decimal Decimal Decimal Absent) (forms Decimal Absent Absent Absent Absent)
+accepted_forms LentCursor x = forms Decimal Decimal Decimal Decimal Decimal
 
 -- a refused call shows lent memory alone
 unfoldable pub refused_forms : Form → Forms
-refused_forms WordAlone = forms 0 0 0 0 0
-refused_forms Second = forms 0 0 0 0 0
-refused_forms EntryFields = forms 0 0 0 0 0
-refused_forms FrameFields = forms 0 0 0 0 0
-refused_forms IteratorCursor = forms 0 0 0 0 0
-refused_forms LentCursor = forms 1 1 1 1 1
+refused_forms WordAlone = forms Absent Absent Absent Absent Absent
+refused_forms Second = forms Absent Absent Absent Absent Absent
+refused_forms EntryFields = forms Absent Absent Absent Absent Absent
+refused_forms FrameFields = forms Absent Absent Absent Absent Absent
+refused_forms IteratorCursor = forms Absent Absent Absent Absent Absent
+refused_forms LentCursor = forms Decimal Decimal Decimal Decimal Decimal
 
 unfoldable pub forms_of : Form → ℕ → ℕ → Forms
 forms_of f refusal x = cond (eqb refusal 0) (accepted_forms f x) (refused_forms f)
@@ -46,8 +48,10 @@ adjusted FrameFields o s = s
 adjusted IteratorCursor o s = s
 adjusted LentCursor o s = with_last o.c s
 
-unfoldable pub field_text : ℕ → ℕ → List ℕ
-field_text form w = cond (eqb form 0) [] (cond (eqb form 1) (32 ∷ decimal w) (32 ∷ digits 16 16 w))
+unfoldable pub field_text : FieldForm → ℕ → List ℕ
+field_text Absent w = []
+field_text Decimal w = 32 ∷ decimal w
+field_text Hexadecimal w = 32 ∷ digits 16 16 w
 
 unfoldable pub extra_text : Forms → Shown → List ℕ
 extra_text f s = field_text f.x s.x ++ (field_text f.y s.y ++ (field_text f.z s.z ++ (field_text f.u s.u ++ field_text f.v s.v)))

@@ -144,15 +144,7 @@ pub record RootLine (p : Session) (w next : ℕ) (before out after out' : List �
   pub roots : take r.count after ≡ cond (leb 64 p.count) (take p.count before) (take p.count before ++ (w ∷ []))
   pub text : Puts (printed (digits 16 2 0x0B) (cond (leb 64 p.count) 4 0) 0 p.heap.account.used) out p.end out' r.end
 
--- a command that was read lies inside the input and the words
-pub record Placed (input : List ℕ) (p : Session) (room : ℕ) (k : Command) : Type 0 where
-  pub onward : p.at < k.next
-  pub within : k.next ≤ length input
-  pub words : k.words + k.frames ≤ room
-  pub bytes : k.from ≤ k.to
-  pub inside : k.to ≤ length input
-
--- where its bytes lie
+-- where a command's bytes lie
 abbrev pub own_bytes : List ℕ → Command → List ℕ
 own_bytes input k = take (k.to - k.from) (drop k.from input)
 

@@ -15,15 +15,16 @@ ghost use Rattle.heap.specs.Opens.{opening_of};
 ghost use Rattle.commands.specs.declared.Memory.TheVariants as M;
 ghost use Rattle.commands.specs.Table.{act_of, memory_of, opening_in, shape_of};
 ghost use Rattle.commands.specs.Promise.{CommandedBy, lists};
-ghost use Rattle.script.specs.Reads.{called_is};
+ghost use Rattle.script.specs.Reads.{Placed, called_as};
 ghost use Rattle.script.specs.Parse.{Called};
 ghost use Rattle.script.specs.Replay.{Play, acted, bytes_for, frames_for, lendable, numbered, opened_by, places_for, seatable, turn_by, words_for};
-ghost use Rattle.script.specs.Turns.{EndLine, Fronts, Goes, LargeLine, LendsWords, Placed, Plays, RootLine, SessionReady, Starts, Turns, heap_room, lend, lists_in, own_bytes, play_of, roomy, script_room};
+ghost use Rattle.script.specs.Turns.{EndLine, Fronts, Goes, LargeLine, LendsWords, Plays, RootLine, SessionReady, Starts, Turns, heap_room, lend, lists_in, own_bytes, play_of, roomy, script_room};
 
 use answers::Shown;
 use commands::{Memory, Operands, Shape};
 use heap::Heap;
 use model::Weights;
+use text::Writer;
 
 // What the program has room for.
 const SLOTS: u64 = 1024;
@@ -69,7 +70,6 @@ pub struct Command {
     pub from: usize,
     pub to: usize,
     pub next: usize,
-    pub known: bool,
 }
 
 // What is read so far: the place behind it, how many numbers, how many words and how many of them,
@@ -82,17 +82,6 @@ pub struct Reader {
     pub framed: usize,
     pub from: usize,
     pub to: usize,
-    pub known: bool,
-}
-
-// How what is answered beside the word is shown: 0 not at all, 1 in decimal, 2 in hexadecimal.
-#[derive(Clone, Copy, Debug, PartialEq, Eq)]
-pub struct Forms {
-    pub x: u64,
-    pub y: u64,
-    pub z: u64,
-    pub u: u64,
-    pub v: u64,
 }
 
 // What is lent of the lists: so many words, up to where those of frames stand behind them, so many
@@ -176,7 +165,7 @@ fn can_lend(memory: Memory, o: Operands) -> bool
 // The command's own words, or the roots: how many, and up to where those of frames stand.
 fn lend_words(memory: Memory, k: Command, roots: &[u64], words: &mut [u64]) -> (usize, usize)
     requires { (k.words + k.frames ≤ length words.old) × (length roots.now ≤ length words.old) }
-    ensures { (p : Play) (input : List ℕ) (c : Called) → called_is input words.old k ≡ some c → p.roots ≡ roots.now → LendsWords (words_for memory p c) (frames_for memory c) words.old result.0 result.1 words.new }
+    ensures { (p : Play) (input : List ℕ) → p.roots ≡ roots.now → LendsWords (words_for memory p (called_as input words.old k)) (frames_for memory (called_as input words.old k)) words.old result.0 result.1 words.new }
 {
     match memory {
         Memory::Roots => {
@@ -302,7 +291,9 @@ impl Session {
         requires { self.old.end + 62 ≤ length out.old }
         ensures { EndLine self.old len out.old out.new self.new }
     {
-        self.end = text::put_unknown(out, self.end, self.heap.account.used);
+        let mut writer = Writer { out, end: self.end };
+        writer.put_unknown(self.heap.account.used);
+        self.end = writer.end;
         self.at = len;
     }
 
@@ -313,13 +304,15 @@ impl Session {
     {
         let used = self.heap.account.used;
         self.at = onward;
+        let mut writer = Writer { out, end: self.end };
         if self.count < ROOTS {
             roots[self.count] = w;
             self.count += 1;
-            self.end = text::put_line(out, self.end, 0x0B, 0, 0, used);
+            writer.put_line(0x0B, 0, 0, used);
         } else {
-            self.end = text::put_line(out, self.end, 0x0B, 4, 0, used);
+            writer.put_line(0x0B, 4, 0, used);
         }
+        self.end = writer.end;
     }
 
     // An opening for which there is no room: refused with 10, or the end of the script.
@@ -330,7 +323,9 @@ impl Session {
         if can_open(k.operands, &input[k.from..k.to]) {
             self.ended(input.len(), out);
         } else {
-            self.end = text::put_line(out, self.end, 0x00, 10, 0, self.heap.account.used);
+            let mut writer = Writer { out, end: self.end };
+            writer.put_line(0x00, 10, 0, self.heap.account.used);
+            self.end = writer.end;
             self.at = k.next;
         }
     }
@@ -355,7 +350,7 @@ impl Session {
         input: &[u8],
     )
         requires session_ready { SessionReady input.now (lend slots.now scalars.now list.now directory.now cells.now marks.old order.old table.old roots.now words.now bytes.now places.now out.old) self.old }
-        requires placed { Placed input.now self.old (length words.now) k }
+        requires placed { Placed input.now self.old.at (length words.now) k }
         requires end_in_bounds { self.old.end + 62 ≤ length out.old }
         ensures { Goes input.now (opened_by (play_of input.now (lend slots.now scalars.now list.now directory.now cells.now marks.old order.old table.old roots.now words.now bytes.now places.now out.old) self.old) (opening_in k.operands (own_bytes input.now k)) (drop k.next input.now) (open_heap (opening_in k.operands (own_bytes input.now k)))) (lend slots.now scalars.now list.now directory.now cells.now marks.old order.old table.old roots.now words.now bytes.now places.now out.old) self.old (lend slots.now scalars.now list.now directory.now cells.now marks.new order.new table.new roots.now words.now bytes.now places.now out.new) self.new }
     {
@@ -379,12 +374,14 @@ impl Session {
             &cells[..room],
         );
         self.at = k.next;
+        let mut writer = Writer { out, end: self.end };
         let Ok(heap) = opened else {
-            let used = self.heap.account.used;
-            self.end = text::put_line(out, self.end, 0x00, 10, 0, used);
+            writer.put_line(0x00, 10, 0, self.heap.account.used);
+            self.end = writer.end;
             return;
         };
-        self.end = text::put_line(out, self.end, 0x00, 0, 0, heap.account.used);
+        writer.put_line(0x00, 0, 0, heap.account.used);
+        self.end = writer.end;
         self.heap = heap;
         self.count = 0;
         self.room = room;
@@ -445,12 +442,22 @@ impl Session {
         let Some(shown) = performed else {
             return self.ended(input.len(), out);
         };
-        let (end, used) = (self.end, self.heap.account.used);
+        let used = self.heap.account.used;
         let places = &places[..l.places];
         let bytes = &bytes[..shown_bytes(s.memory, l.bytes)];
-        self.end = lines::put_shown(
-            out, end, code, s.form, s.memory, o, shown, used, places, bytes,
+        let mut writer = Writer { out, end: self.end };
+        lines::put_shown(
+            &mut writer,
+            code,
+            s.form,
+            s.memory,
+            o,
+            shown,
+            used,
+            places,
+            bytes,
         );
+        self.end = writer.end;
         self.at = next;
     }
 
@@ -475,9 +482,9 @@ impl Session {
         input: &[u8],
     )
         requires session_ready { SessionReady input.now (lend slots.old scalars.old list.old directory.old cells.old marks.old order.old table.now roots.now words.old bytes.old places.old out.old) self.old }
-        requires placed { Placed input.now self.old (length words.old) k }
-        requires known_value { (k.known ≡ true) × (code ≡ 0x00 → ⊥) × (code ≡ 0x0B → ⊥) × (self.old.end + 1114279 ≤ length out.old) }
-        ensures { Goes input.now (turn_by (play_of input.now (lend slots.old scalars.old list.old directory.old cells.old marks.old order.old table.now roots.now words.old bytes.old places.old out.old) self.old) code (called_is input.now words.old k)) (lend slots.old scalars.old list.old directory.old cells.old marks.old order.old table.now roots.now words.old bytes.old places.old out.old) self.old (lend slots.new scalars.new list.new directory.new cells.new marks.new order.new table.now roots.now words.new bytes.new places.new out.new) self.new }
+        requires placed { Placed input.now self.old.at (length words.old) k }
+        requires code_value { (code ≡ 0x00 → ⊥) × (code ≡ 0x0B → ⊥) × (self.old.end + 1114279 ≤ length out.old) }
+        ensures { Goes input.now (turn_by (play_of input.now (lend slots.old scalars.old list.old directory.old cells.old marks.old order.old table.now roots.now words.old bytes.old places.old out.old) self.old) code (some (called_as input.now words.old k))) (lend slots.old scalars.old list.old directory.old cells.old marks.old order.old table.now roots.now words.old bytes.old places.old out.old) self.old (lend slots.new scalars.new list.new directory.new cells.new marks.new order.new table.now roots.now words.new bytes.new places.new out.new) self.new }
     {
         let s = commands::shape_of(code);
         let o = k.operands;
@@ -519,10 +526,9 @@ impl Session {
         requires at_in_bounds { (self.old.at < length input.now) × (self.old.end + 1114279 ≤ length out.old) }
         ensures { Turns input.now (lend slots.old scalars.old list.old directory.old cells.old marks.old order.old table.old roots.old words.old bytes.old places.old out.old) self.old (lend slots.new scalars.new list.new directory.new cells.new marks.new order.new table.new roots.new words.new bytes.new places.new out.new) self.new }
     {
-        let k = operands::read_call(input, self.at, words);
-        if !k.known {
+        let Some(k) = operands::read_call(input, self.at, words) else {
             return self.ended(input.len(), out);
-        }
+        };
         match input[self.at] {
             0x00 => self.open_turn(
                 k, slots, scalars, list, directory, cells, marks, order, table, roots, words,

@@ -1,40 +1,72 @@
 // The line of a command.
 ghost use Rattle.std.specs.Prelude.{◌≡◌, ◌+◌, ◌*◌, ◌≤◌, length, take};
-ghost use Rattle.text.specs.Puts.{Puts};
-ghost use Rattle.commands.specs.declared.Form.TheVariants as F;
-ghost use Rattle.script.specs.Lines.{accepted_forms, adjusted, buffer_text, extra_text, field_text, forms, forms_of, hex_text, lent_text, line_text, list_text, refused_forms, with_last};
+ghost use Rattle.text.specs.Writes.{Writes};
+ghost use Rattle.script.specs.Lines.{accepted_forms, adjusted, buffer_text, extra_text, field_text, forms_of, hex_text, lent_text, line_text, list_text, refused_forms, with_last};
 
-use crate::Forms;
 use answers::Shown;
 use commands::{Form, Memory, Operands};
+use text::Writer;
 
-fn with_forms(x: u64, y: u64, z: u64, u: u64, v: u64) -> Forms
-    ensures { result ≡ forms x y z u v }
-{
-    Forms { x, y, z, u, v }
+// How a number that is answered beside the word is shown.
+#[derive(Clone, Copy, Debug, PartialEq, Eq)]
+enum FieldForm {
+    Absent,
+    Decimal,
+    Hexadecimal,
 }
 
-#[tactic(auto, using(std::proofs::lemmas::Bool::Decides::nat_tests), unfolding(crate::specs::Lines::accepted_forms))]
-fn cursor_forms(x: u64) -> Forms
-    ensures { result ≡ accepted_forms F.IteratorCursor x }
-{
-    if x == 7 {
-        return with_forms(1, 1, 1, 1, 0);
-    }
-    with_forms(1, 0, 0, 0, 0)
+#[derive(Clone, Copy, Debug, PartialEq, Eq)]
+struct Forms {
+    x: FieldForm,
+    y: FieldForm,
+    z: FieldForm,
+    u: FieldForm,
+    v: FieldForm,
 }
+
+const ALL_ABSENT: Forms = Forms {
+    x: FieldForm::Absent,
+    y: FieldForm::Absent,
+    z: FieldForm::Absent,
+    u: FieldForm::Absent,
+    v: FieldForm::Absent,
+};
+
+const ALL_DECIMAL: Forms = Forms {
+    x: FieldForm::Decimal,
+    y: FieldForm::Decimal,
+    z: FieldForm::Decimal,
+    u: FieldForm::Decimal,
+    v: FieldForm::Decimal,
+};
 
 #[tactic(auto, using(std::proofs::lemmas::Bool::Decides::nat_tests), unfolding(crate::specs::Lines::accepted_forms))]
 fn accepted_forms(form: Form, x: u64) -> Forms
     ensures { result ≡ accepted_forms form x }
 {
     match form {
-        Form::WordAlone => with_forms(0, 0, 0, 0, 0),
-        Form::Second => with_forms(1, 0, 0, 0, 0),
-        Form::EntryFields => with_forms(2, 2, 1, 1, 0),
-        Form::FrameFields => with_forms(1, 1, 2, 0, 0),
-        Form::IteratorCursor => cursor_forms(x),
-        Form::LentCursor => with_forms(1, 1, 1, 1, 1),
+        Form::WordAlone => ALL_ABSENT,
+        Form::EntryFields => Forms {
+            x: FieldForm::Hexadecimal,
+            y: FieldForm::Hexadecimal,
+            v: FieldForm::Absent,
+            ..ALL_DECIMAL
+        },
+        Form::FrameFields => Forms {
+            x: FieldForm::Decimal,
+            y: FieldForm::Decimal,
+            z: FieldForm::Hexadecimal,
+            ..ALL_ABSENT
+        },
+        Form::IteratorCursor if x == 7 => Forms {
+            v: FieldForm::Absent,
+            ..ALL_DECIMAL
+        },
+        Form::Second | Form::IteratorCursor => Forms {
+            x: FieldForm::Decimal,
+            ..ALL_ABSENT
+        },
+        Form::LentCursor => ALL_DECIMAL,
     }
 }
 
@@ -46,64 +78,61 @@ fn forms_of(form: Form, refusal: u64, x: u64) -> Forms
         return accepted_forms(form, x);
     }
     match form {
-        Form::LentCursor => with_forms(1, 1, 1, 1, 1),
-        _ => with_forms(0, 0, 0, 0, 0),
+        Form::LentCursor => ALL_DECIMAL,
+        _ => ALL_ABSENT,
     }
 }
 
-fn put_field(out: &mut [u8], at: usize, form: u64, w: u64) -> usize
-    requires { at + 21 ≤ length out.old }
-    ensures { Puts (field_text form w) out.old at out.new result }
+fn put_field(writer: &mut Writer<'_>, form: FieldForm, w: u64)
+    requires { writer.old.end + 21 ≤ length writer.old.out.now }
+    ensures { Writes (field_text form w) writer.old writer.new }
 {
     match form {
-        0 => at,
-        1 => text::put_spaced_decimal(out, at, w),
-        _ => text::put_spaced_hex(out, at, w, 16),
+        FieldForm::Absent => {},
+        FieldForm::Decimal => writer.put_spaced_decimal(w),
+        FieldForm::Hexadecimal => writer.put_spaced_hex(w, 16),
     }
 }
 
-fn put_extra(out: &mut [u8], at: usize, f: Forms, s: Shown) -> usize
-    requires { at + 105 ≤ length out.old }
-    ensures { Puts (extra_text f s) out.old at out.new result }
+fn put_extra(writer: &mut Writer<'_>, f: Forms, s: Shown)
+    requires { writer.old.end + 105 ≤ length writer.old.out.now }
+    ensures { Writes (extra_text f s) writer.old writer.new }
 {
-    let a = put_field(out, at, f.x, s.x);
-    let b = put_field(out, a, f.y, s.y);
-    let c = put_field(out, b, f.z, s.z);
-    let d = put_field(out, c, f.u, s.u);
-    put_field(out, d, f.v, s.v)
+    put_field(writer, f.x, s.x);
+    put_field(writer, f.y, s.y);
+    put_field(writer, f.z, s.z);
+    put_field(writer, f.u, s.u);
+    put_field(writer, f.v, s.v);
 }
 
-fn put_list(out: &mut [u8], at: usize, places: &[u64]) -> usize
-    requires { at + 17 * length places.now ≤ length out.old }
-    ensures { Puts (list_text places.now) out.old at out.new result }
+fn put_list(writer: &mut Writer<'_>, places: &[u64])
+    requires { writer.old.end + 17 * length places.now ≤ length writer.old.out.now }
+    ensures { Writes (list_text places.now) writer.old writer.new }
 {
-    let mut end = at;
     for place in places {
-        end = text::put_spaced_hex(out, end, *place, 16);
+        writer.put_spaced_hex(*place, 16);
     }
-    end
 }
 
-fn put_bytes(out: &mut [u8], at: usize, bytes: &[u8]) -> usize
-    requires { at + 2 * length bytes.now ≤ length out.old }
-    ensures { Puts (hex_text bytes.now) out.old at out.new result }
+fn put_bytes(writer: &mut Writer<'_>, bytes: &[u8])
+    requires { writer.old.end + 2 * length bytes.now ≤ length writer.old.out.now }
+    ensures { Writes (hex_text bytes.now) writer.old writer.new }
 {
-    let mut end = at;
     for byte in bytes {
-        end = text::put_hex(out, end, *byte as u64, 2);
+        writer.put_hex(*byte as u64, 2);
     }
-    end
 }
 
-fn put_buffer(out: &mut [u8], at: usize, bytes: &[u8]) -> usize
-    requires { at + 2 + 2 * length bytes.now ≤ length out.old }
-    ensures { Puts (buffer_text bytes.now) out.old at out.new result }
+fn put_buffer(writer: &mut Writer<'_>, bytes: &[u8])
+    requires { writer.old.end + 2 + 2 * length bytes.now ≤ length writer.old.out.now }
+    ensures { Writes (buffer_text bytes.now) writer.old writer.new }
 {
-    let a = text::put_byte(out, at, b' ');
+    writer.put_byte(b' ');
     if bytes.is_empty() {
-        return text::put_byte(out, a, b'-');
+        writer.put_byte(b'-');
+    } else {
+        put_bytes(writer, bytes);
     }
-    put_bytes(out, a, bytes)
 }
 
 // What is listed of the places: no more than there are.
@@ -115,23 +144,16 @@ fn listed(x: u64, places: &[u64]) -> usize
 }
 
 // The memory lent: the buffer, the list, or what is listed for the roots.
-fn put_lent(
-    out: &mut [u8],
-    at: usize,
-    memory: Memory,
-    s: Shown,
-    places: &[u64],
-    bytes: &[u8],
-) -> usize
-    requires places_in_bounds { at + 17 * length places.now ≤ length out.old }
-    requires bytes_in_bounds { at + 2 + 2 * length bytes.now ≤ length out.old }
-    ensures { Puts (lent_text memory s places.now bytes.now) out.old at out.new result }
+fn put_lent(writer: &mut Writer<'_>, memory: Memory, s: Shown, places: &[u64], bytes: &[u8])
+    requires places_in_bounds { writer.old.end + 17 * length places.now ≤ length writer.old.out.now }
+    requires bytes_in_bounds { writer.old.end + 2 + 2 * length bytes.now ≤ length writer.old.out.now }
+    ensures { Writes (lent_text memory s places.now bytes.now) writer.old writer.new }
 {
     match memory {
-        Memory::Own => at,
-        Memory::Buffer => put_buffer(out, at, bytes),
-        Memory::Places => put_list(out, at, places),
-        Memory::Roots => put_list(out, at, &places[..listed(s.x, places)]),
+        Memory::Own => {},
+        Memory::Buffer => put_buffer(writer, bytes),
+        Memory::Places => put_list(writer, places),
+        Memory::Roots => put_list(writer, &places[..listed(s.x, places)]),
     }
 }
 
@@ -154,8 +176,7 @@ fn adjust(form: Form, o: Operands, s: Shown) -> Shown
 
 // The line of a command, behind the text that is there.
 pub fn put_shown(
-    out: &mut [u8],
-    at: usize,
+    writer: &mut Writer<'_>,
     code: u64,
     form: Form,
     memory: Memory,
@@ -164,15 +185,15 @@ pub fn put_shown(
     used: u64,
     places: &[u64],
     bytes: &[u8],
-) -> usize
-    requires places_in_bounds { at + 167 + 17 * length places.now ≤ length out.old }
-    requires bytes_in_bounds { at + 169 + 2 * length bytes.now ≤ length out.old }
-    ensures { Puts (line_text code form memory (adjusted form o shown) used places.now bytes.now) out.old at out.new result }
+)
+    requires places_in_bounds { writer.old.end + 167 + 17 * length places.now ≤ length writer.old.out.now }
+    requires bytes_in_bounds { writer.old.end + 169 + 2 * length bytes.now ≤ length writer.old.out.now }
+    ensures { Writes (line_text code form memory (adjusted form o shown) used places.now bytes.now) writer.old writer.new }
 {
     let s = adjust(form, o, shown);
-    let a = text::put_head(out, at, code, s.refusal, s.word, used);
+    writer.put_head(code, s.refusal, s.word, used);
     let f = forms_of(form, s.refusal, s.x);
-    let b = put_extra(out, a, f, s);
-    let c = put_lent(out, b, memory, s, places, bytes);
-    text::put_byte(out, c, b'\n')
+    put_extra(writer, f, s);
+    put_lent(writer, memory, s, places, bytes);
+    writer.put_byte(b'\n');
 }

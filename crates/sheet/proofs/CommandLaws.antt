@@ -3,6 +3,7 @@ use Prim.Native.Nat.{ℕ, ◌+◌, ◌-◌, ◌≤◌, ◌<◌}
 use mathlib.Core.Path.{◌≡◌, refl, sym, ap, ◌∙◌}
 use mathlib.Core.Bool.{Bool, true, false, cond}
 use mathlib.Core.List.{List, [], ◌∷◌}
+use mathlib.Core.Logic.{◌⊎◌, inl, inr}
 use mathlib.Core.Option.{Option, none, some}
 use native.Mathlib.Omega.{arith}
 use lib.Dec.{eqb, leb}
@@ -14,7 +15,8 @@ use Rattle.history.proofs.Facts.{eqb_no}
 use Rattle.history.proofs.Lift.{seen}
 use Rattle.layout.specs.Layout.{Layout}
 use Rattle.map_store.specs.Store.{signed64}
-use Rattle.text.specs.Puts.{Puts}
+use Rattle.text.specs.Writes.{Writes}
+use Rattle.text.specs.declared.Writer.{Writer}
 use Rattle.text.proofs.DigitsLaws.{length_digits}
 use Rattle.text.proofs.PutsLaws.{length-printed}
 use Rattle.model.specs.Calls.{collect, new_array, new_box, read_box}
@@ -24,30 +26,33 @@ use Rattle.model.specs.Callsheet.{Sheet, answer_word, call_of, called, commanded
 use Rattle.heap.specs.Answers.{reading_is}
 use Rattle.heap.specs.State.{State, model_of}
 use Rattle.heap.specs.declared.Refusal.{Refusal}
-use Rattle.sheet.specs.declared.Sheet as Declared
+use Rattle.sheet.specs.declared.state.Sheet as Declared
 use Rattle.sheet.specs.declared.SheetLine.{SheetLine}
-use Rattle.sheet.specs.Turns.{operands_is, turn_by, turn_of}
+use Rattle.sheet.specs.declared.Command.{Command}
+use Rattle.sheet.specs.declared.Command.TheVariants as Commanded
+use Rattle.sheet.specs.Turns.{code_of, operands_is, turn_by, turn_of}
 use Rattle.sheet.specs.Promise.{Commands, Roots, Shows, Turns, model_in, roots_in, sheet_of, shown_of}
-use Rattle.sheet.proofs.OperandLaws.{supplied_size}
+use Rattle.sheet.proofs.OperandLaws.{present_some, supplied_size}
 
 -- ---- the call by the command
 
-module _ (c : ℕ) (bs roots : List ℕ) where
-  pub call-box : c ≡ 0x01 → new_box (little_endian (take 8 bs)) ≡ call_of c bs roots
-  unfolding call_of
+module _ (k : Command) (bs roots : List ℕ) where
+  pub call-box : k ≡ Commanded.NewBox → new_box (little_endian (take 8 bs)) ≡ call_of (code_of k) bs roots
+  unfolding code_of call_of
   call-box e = rw e
 
-  pub call-array : c ≡ 0x02 → new_array (get_or bs 0 0) (signed64 (little_endian (take 8 (drop 1 bs)))) ≡ call_of c bs roots
-  unfolding call_of
+  pub call-array : k ≡ Commanded.NewArray → new_array (get_or bs 0 0) (signed64 (little_endian (take 8 (drop 1 bs)))) ≡ call_of (code_of k) bs roots
+  unfolding code_of call_of
   call-array e = rw e
 
-  pub call_read : c ≡ 0x06 → read_box (little_endian (take 8 bs)) ≡ call_of c bs roots
-  unfolding call_of
+  pub call_read : k ≡ Commanded.ReadBox → read_box (little_endian (take 8 bs)) ≡ call_of (code_of k) bs roots
+  unfolding code_of call_of
   call_read e = rw e
 
-  pub call-collect : (c ≡ 0x01 → ⊥) → (c ≡ 0x02 → ⊥) → (c ≡ 0x06 → ⊥) → collect roots [] ≡ call_of c bs roots
-  unfolding call_of
-  call-collect x y z = rw (eqb_no c 0x01 x, eqb_no c 0x02 y, eqb_no c 0x06 z)
+  pub call-collect : (k ≡ Commanded.Root) ⊎ (k ≡ Commanded.Collect) → collect roots [] ≡ call_of (code_of k) bs roots
+  unfolding code_of call_of
+  call-collect (inl e) = rw e
+  call-collect (inr e) = rw e
 
 -- ---- lengths
 
@@ -73,8 +78,8 @@ turn_short s c bs = go (present_operands (length bs) (operand_bytes c))
 
 -- ---- a call and its line
 
-pub commands_call : (c : ℕ) {bs : List ℕ} {b a : Declared.Sheet} {r : Result ℕ Refusal} {y : SheetLine} {out out' : List ℕ} {end end' : ℕ} → (c ≡ 0x0B → ⊥) → Shows (call_of c bs (roots_in b)) b r a → y ≡ shown_of (reading_is r) →
-    Puts (printed (digits 16 2 c) y.refusal y.word a.heap.account.used) out end out' end' → Commands (sheet_of b) c bs out end (sheet_of a) out' end'
+pub commands_call : (c : ℕ) {bs : List ℕ} {b a : Declared.Sheet} {r : Result ℕ Refusal} {y : SheetLine} {w w' : Writer} → (c ≡ 0x0B → ⊥) → Shows (call_of c bs (roots_in b)) b r a → y ≡ shown_of (reading_is r) →
+    Writes (printed (digits 16 2 c) y.refusal y.word a.heap.account.used) w w' → Commands (sheet_of b) c bs w (sheet_of a) w'
 unfolding commanded called seen model_of
 commands_call c {bs} {b} {a} {r} {y} h s e p =
     let o = step (model_in b) (call_of c bs (roots_in b)) in
@@ -86,9 +91,9 @@ commands_call c {bs} {b} {a} {r} {y} h s e p =
 
 -- ---- a root and its line
 
-pub commands_root : {b a : Declared.Sheet} {w r : ℕ} {bs out out' : List ℕ} {end end' : ℕ} → b.count ≤ length b.roots → w ≡ little_endian (take 8 bs) → Roots b w r a →
-    Puts (printed (digits 16 2 0x0B) r 0 a.heap.account.used) out end out' end' → Commands (sheet_of b) 0x0B bs out end (sheet_of a) out' end'
-unfolding commanded rooted model_of
+pub commands_root : {b a : Declared.Sheet} {root r : ℕ} {bs : List ℕ} {w w' : Writer} → b.count ≤ length b.roots → root ≡ little_endian (take 8 bs) → Roots b root r a →
+    Writes (printed (digits 16 2 (code_of Commanded.Root)) r 0 a.heap.account.used) w w' → Commands (sheet_of b) (code_of Commanded.Root) bs w (sheet_of a) w'
+unfolding code_of commanded rooted model_of
 commands_root {b} {a} fits ew g p =
     let e : length (roots_in b) ≡ b.count = length-take-le b.count b.roots fits in
     let eu : a.heap.account.used ≡ b.heap.account.used = ap (λ (m : Model). m.account.used) g.same in
@@ -104,27 +109,27 @@ used_of l t = refl
 pub tail_whole : (input : List ℕ) (at : ℕ) → take (length input - at) (drop at input) ≡ drop at input
 tail_whole input at = take_all (length input - at) (drop at input) (omega (arith, length-drop at input))
 
-pub commands_same : {s : Sheet} {c c' : ℕ} {bs bs' out : List ℕ} {end : ℕ} {a : Sheet} {out' : List ℕ} {end' : ℕ} → c ≡ c' → bs ≡ bs' → Commands s c bs out end a out' end' → Commands s c' bs' out end a out' end'
+pub commands_same : {s : Sheet} {c c' : ℕ} {bs bs' : List ℕ} {w : Writer} {a : Sheet} {w' : Writer} → c ≡ c' → bs ≡ bs' → Commands s c bs w a w' → Commands s c' bs' w a w'
 commands_same e f p = rw (e, f) at p
 
-module _ {s : Sheet} {input : List ℕ} (at : ℕ) {out : List ℕ} {end : ℕ} {out' : List ℕ} {end' : ℕ} {r : Std.Option ℕ}
+module _ {s : Sheet} {input : List ℕ} (at : ℕ) {w w' : Writer} {r : Std.Option Command}
     (inside : at < length input)
     (p : operands_is r ≡ present_operands (length (drop (at + 1) input)) (operand_bytes (get_or input at 0))) where
-  pub turns_missing : {used : ℕ} → r ≡ None → s.heap.account.used ≡ used → Puts (printed (63 ∷ 63 ∷ []) 4 0 used) out end out' end' → Turns s input at out end s (length input) out' end'
+  pub turns_missing : {used : ℕ} → r ≡ None → s.heap.account.used ≡ used → Writes (printed (63 ∷ 63 ∷ []) 4 0 used) w w' → Turns s input at w s (length input) w'
   unfolding turn_of turn_by operands_is unknown
   turns_missing e u q =
       let t : present_operands (length (drop (at + 1) input)) (operand_bytes (get_or input at 0)) ≡ none = sym p ∙ rw e in
       record { text = rw (t, u) q; next = rw t; rest = rw t (sym (drop-length input)); onward = inside; within = omega arith }
 
-  pub turns_command : {c : ℕ} {bs : List ℕ} {a : Sheet} (n : ℕ) → r ≡ Some n → c ≡ get_or input at 0 → bs ≡ drop (at + 1) input → Commands s c bs out end a out' end' → Turns s input at out end a (at + 1 + n) out' end'
+  pub turns_command : {k : Command} {c : ℕ} {bs : List ℕ} {a : Sheet} (n : ℕ) → r ≡ Some k → some n ≡ operand_bytes (code_of k) → c ≡ get_or input at 0 → bs ≡ drop (at + 1) input → Commands s c bs w a w' → Turns s input at w a (at + 1 + n) w'
   unfolding turn_of turn_by operands_is
-  turns_command n e x y d =
-      let t : present_operands (length (drop (at + 1) input)) (operand_bytes (get_or input at 0)) ≡ some n = sym p ∙ rw e in
+  turns_command n e k x y d =
+      let t : present_operands (length (drop (at + 1) input)) (operand_bytes (get_or input at 0)) ≡ some n = sym (present_some (get_or input at 0) n (drop (at + 1) input) p e k) in
       let q = commands_same x y d in
       record {
         text = rw t q.text;
         next = rw t q.next;
         rest = rw t (drop-drop n (at + 1) input);
         onward = omega arith;
-        within = omega (arith, supplied_size (get_or input at 0) n (drop (at + 1) input) p e, length-drop (at + 1) input);
+        within = omega (arith, supplied_size (get_or input at 0) n (drop (at + 1) input) p e k, length-drop (at + 1) input);
       }

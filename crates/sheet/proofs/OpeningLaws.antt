@@ -14,7 +14,6 @@ use Rattle.history.proofs.Facts.{leb_no, leb_yes}
 use Rattle.heap_slots.proofs.Cases.{by_cases, lt_or_le}
 use Rattle.layout.specs.Layout as Layout-
 use Rattle.layout.specs.Sections.{Tabled, layout_of}
-use Rattle.layout.specs.declared.ReadLayout.{ReadLayout}
 use Rattle.model.specs.Opening.{Opening, open_heap, open_with, sizes_fit}
 use Rattle.model.specs.Terms.{is_some}
 use Rattle.model.specs.Callsheet.{sheet_heap, sheet_opening, sheet_text}
@@ -24,8 +23,9 @@ use Rattle.heap.specs.Opens.{accepts, beside, new_heap, opened_by, opening_of, r
 use Rattle.heap.specs.declared.Heap.{Heap}
 use Rattle.heap.specs.declared.Refusal.{Refusal}
 use Rattle.sheet.specs.Turns.{text_from}
-use Rattle.sheet.specs.Promise.{Answers, OpensHeap, Printout, Prints, Whole, held_in, printout_is, printout_of, sheet_room}
-use Rattle.sheet.specs.declared.Buffers.{Buffers}
+use Rattle.sheet.specs.Promise.{Answers, OpensHeap, Printout, Prints, printout_is, printout_of, sheet_room}
+use Rattle.sheet.specs.Whole.{Whole, held_in}
+use Rattle.sheet.specs.declared.state.Buffers.{Buffers}
 
 sheet-opens : open_heap sheet_opening ≡ some sheet_heap
 unfolding open_heap open_with sizes_fit sheet_heap Layout-.at_last Layout-.with_struct Layout-.with_field Layout-.with_function Layout-.with_register Layout-.with_capture Layout-.when Layout-.command Layout-.byte Layout-.proceed Layout-.reading Layout-.parse
@@ -73,8 +73,8 @@ module _ {b a : Buffers} {t t' : List ℕ} {r : Result Heap Refusal} (x : Long b
     pub opened-tabled : Tabled (0 ∷ []) t'
     opened-tabled = (p.opens.accepted accepted).tabled
 
-    pub opened-whole : (l : ReadLayout) (roots : List ℕ) → Whole record { heap = h; buffers = a; layout = l; roots = roots; count = 0 }
-    opened-whole l roots =
+    pub opened-whole : Whole h a 0
+    opened-whole =
         let q = p.opens.accepted accepted in
         rw opened-heap record { good = subst Good (sym (p.kept sheet_record)) q.good; rested = q.rested; few = omega arith }
 

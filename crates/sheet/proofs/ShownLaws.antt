@@ -9,6 +9,7 @@ use lib.Dec.{leb}
 use lib.ListN.{length, set, take}
 use lib.Seq.{take-suc-set}
 use Rattle.std.proofs.Common.{Result, Ok, Err}
+use Rattle.layout.specs.Layout.{Layout}
 use Rattle.layout.specs.Sections.{layout_of}
 use Rattle.layout.specs.declared.ReadLayout.{ReadLayout}
 use Rattle.map_store.specs.Store as Store
@@ -19,14 +20,17 @@ use Rattle.history.proofs.Sizes.{step-size}
 use Rattle.model.specs.Calls.{Call}
 use Rattle.model.specs.Model.{Model}
 use Rattle.model.specs.Callsheet.{answer_word, reply_word}
+use Rattle.heap.specs.declared.Heap.{Heap}
 use Rattle.heap.specs.declared.Refusal.{Refusal}
 use Rattle.heap.specs.Answers.{made_is, reading_is, seen_by}
 use Rattle.heap.specs.State.{model_of}
 use Rattle.heap.specs.Promise.{Does, Performs}
 use Rattle.collector.specs.declared.Collection.{Collection}
 use Rattle.collector.specs.Answer.{collection_is}
-use Rattle.sheet.specs.declared.Sheet.{Sheet}
-use Rattle.sheet.specs.Promise.{Shows, Whole, model_in, roots_in, shown_of, state_in}
+use Rattle.sheet.specs.declared.state.Buffers.{Buffers}
+use Rattle.sheet.specs.declared.state.Sheet.{Sheet}
+use Rattle.sheet.specs.Whole.{Whole, held_in}
+use Rattle.sheet.specs.Promise.{Shows, model_in, roots_in, shown_of, state_in}
 
 shown-made : (a : Result ℕ Refusal) → shown_of (made_is a) ≡ shown_of (reading_is a)
 unfolding seen_by answer_word reply_word
@@ -35,17 +39,21 @@ shown-made (Err q) = refl
 
 -- ---- from what a call promises
 
-module _ {b a : Sheet} {k : Call} (w : Whole b) (l : a.layout ≡ b.layout) (s : roots_in a ≡ roots_in b) (n : a.count ≡ b.count) (m : a.buffers.marks ≡ b.buffers.marks) (o : a.buffers.order ≡ b.buffers.order) where
+-- a call keeps what holds of a sheet
+pub whole_kept : {h h' : Heap} {b b' : Buffers} {count : ℕ} {k : Call} {x : Seen} (l : Layout) → Whole h b count → b'.marks ≡ b.marks → b'.order ≡ b.order → Does l k (held_in h b) x (held_in h' b') → Whole h' b' count
+unfolding model_of
+whole_kept {h} {h'} {b} {k = k} l w m o d =
+    let size : h'.size ≡ h.size = ap (λ (y : Model). y.table.size) d.next ∙ step-size (model_of l (held_in h b)) k in
+    record { good = d.good; rested = rw (size, m, o) w.rested; few = w.few }
+
+pub whole_performed : {h h' : Heap} {b b' : Buffers} {count : ℕ} {k : Call} {x : Seen} → Whole h b count → b'.marks ≡ b.marks → b'.order ≡ b.order → Performs k (held_in h b) x (held_in h' b') → Whole h' b' count
+whole_performed w m o p = let l : Layout = record { structs = []; functions = [] } in whole_kept l w m o (p l)
+
+module _ {b a : Sheet} {k : Call} (l : a.layout ≡ b.layout) (s : roots_in a ≡ roots_in b) where
   shows-does : {x : Seen} {r : Result ℕ Refusal} → Does (layout_of b.layout.bytes.now) k (state_in b) x (state_in a) → shown_of x ≡ shown_of (reading_is r) → Shows k b r a
-  unfolding model_of
   shows-does d e =
-      let size : a.heap.size ≡ b.heap.size = ap (λ (y : Model). y.table.size) d.next ∙ step-size (model_in b) k in
       let held : model_in a ≡ model_of (layout_of b.layout.bytes.now) (state_in a) = ap (λ (y : ReadLayout). model_of (layout_of y.bytes.now) (state_in a)) l in
-      record {
-        shown = sym e ∙ ap shown_of d.shows;
-        next = λ j. record { heap = (held ∙ d.next) j; roots = s j };
-        whole = record { good = d.good; rested = rw (size, m, o) w.rested; few = rw n w.few };
-      }
+      record { shown = sym e ∙ ap shown_of d.shows; next = λ j. record { heap = (held ∙ d.next) j; roots = s j } }
 
   pub shows-reading : {r : Result ℕ Refusal} → Performs k (state_in b) (reading_is r) (state_in a) → Shows k b r a
   shows-reading p = shows-does (p (layout_of b.layout.bytes.now)) refl

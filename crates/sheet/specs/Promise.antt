@@ -2,7 +2,8 @@
 use Rattle.std.specs.Prelude.{ℕ, ◌+◌, ◌*◌, ◌≤◌, ◌<◌, min, ◌≡◌, cond, List, [], ◌∷◌, ◌++◌, leb, length, get_or, take, drop, Option, Some, None, Result}
 use Rattle.layout.specs.Sections.{layout_of}
 use Rattle.history.proofs.Lift.{Seen, seen}
-use Rattle.text.specs.Puts.{Puts}
+use Rattle.text.specs.Writes.{Writes}
+use Rattle.text.specs.declared.Writer.{Writer}
 use Rattle.model.specs.Calls.{Call}
 use Rattle.model.specs.Model.{Model}
 use Rattle.model.specs.Step.{step}
@@ -10,18 +11,14 @@ use Rattle.model.specs.Callsheet as Callsheet
 use Rattle.model.specs.Callsheet.{answer_word, commanded, sheet_opening, sheet_text}
 use Rattle.heap.specs.declared.Refusal.{Refusal}
 use Rattle.heap.specs.Answers.{reading_is}
-use Rattle.heap.specs.State.{State, model_of, state}
-use Rattle.heap.specs.Good.{Good, Rested}
+use Rattle.heap.specs.State.{State, model_of}
 use Rattle.heap.specs.declared.Heap.{Heap}
 use Rattle.heap.specs.Opens.{Opens, beside, new_heap, opening_of}
-use Rattle.sheet.specs.declared.Buffers.{Buffers}
-use Rattle.sheet.specs.declared.Sheet.{Sheet}
+use Rattle.sheet.specs.declared.state.Buffers.{Buffers}
+use Rattle.sheet.specs.declared.state.Sheet.{Sheet}
 use Rattle.sheet.specs.declared.SheetLine.{SheetLine}
 use Rattle.sheet.specs.Turns.{turn_of}
-
--- the record over the buffers
-abbrev pub held_in : Heap → Buffers → State
-held_in h b = state h b.slots b.scalars b.list b.directory b.cells
+use Rattle.sheet.specs.Whole.{held_in}
 
 -- the heap's state, the model that it holds, and the roots given so far
 abbrev pub state_in : Sheet → State
@@ -36,12 +33,6 @@ roots_in s = take s.count s.roots
 abbrev pub sheet_of : Sheet → Callsheet.Sheet
 sheet_of s = record { heap = model_in s; roots = roots_in s }
 
--- what holds of a sheet between commands
-pub record Whole (s : Sheet) : Type 0 where
-  pub good : Good (state_in s)
-  pub rested : Rested s.heap.size s.buffers.marks s.buffers.order
-  pub few : s.count ≤ 64
-
 -- the program's heap opened over the buffers b, which became a, with the table of the layout's sections beside them
 pub record OpensHeap (layout : List ℕ) (b : Buffers) (table : List ℕ) (r : Result Heap Refusal) (a : Buffers) (table' : List ℕ) : Type 0 where
   pub opens : Opens (opening_of 256 (length b.cells) 1048576 sheet_opening.weights layout) (held_in (new_heap 256 1048576 sheet_opening.weights) b) (beside table b.marks b.order) r (beside table' a.marks a.order)
@@ -55,23 +46,21 @@ shown_of o = record { word = answer_word o.answer; refusal = o.refusal }
 pub record Shows (k : Call) (b : Sheet) (r : Result ℕ Refusal) (a : Sheet) : Type 0 where
   pub shown : shown_of (reading_is r) ≡ shown_of (seen (step (model_in b) k))
   pub next : sheet_of a ≡ record { heap = (step (model_in b) k).next; roots = roots_in b }
-  pub whole : Whole a
 
 -- "0B root (word; a 65th gives 4)"
 pub record Roots (b : Sheet) (w r : ℕ) (a : Sheet) : Type 0 where
   pub refusal : r ≡ cond (leb 64 b.count) 4 0
   pub roots : roots_in a ≡ cond (leb 64 b.count) (roots_in b) (roots_in b ++ (w ∷ []))
   pub same : model_in a ≡ model_in b
-  pub whole : Whole a
 
--- the command c with the bytes behind it: its line is put into out, and a is the sheet afterwards
-pub record Commands (s : Callsheet.Sheet) (c : ℕ) (bs out : List ℕ) (end : ℕ) (a : Callsheet.Sheet) (out' : List ℕ) (end' : ℕ) : Type 0 where
-  pub text : Puts (commanded s c bs).text out end out' end'
+-- the command c with the bytes behind it: its line is written, and a is the sheet afterwards
+pub record Commands (s : Callsheet.Sheet) (c : ℕ) (bs : List ℕ) (w : Writer) (a : Callsheet.Sheet) (w' : Writer) : Type 0 where
+  pub text : Writes (commanded s c bs).text w w'
   pub next : (commanded s c bs).next ≡ a
 
--- the command at a place, or what stands for it: its line is put into out, the next command stands at at', and a is the sheet afterwards
-pub record Turns (s : Callsheet.Sheet) (input : List ℕ) (at : ℕ) (out : List ℕ) (end : ℕ) (a : Callsheet.Sheet) (at' : ℕ) (out' : List ℕ) (end' : ℕ) : Type 0 where
-  pub text : Puts (turn_of s (get_or input at 0) (drop (at + 1) input)).text out end out' end'
+-- the command at a place, or what stands for it: its line is written, the next command stands at at', and a is the sheet afterwards
+pub record Turns (s : Callsheet.Sheet) (input : List ℕ) (at : ℕ) (w : Writer) (a : Callsheet.Sheet) (at' : ℕ) (w' : Writer) : Type 0 where
+  pub text : Writes (turn_of s (get_or input at 0) (drop (at + 1) input)).text w w'
   pub next : (turn_of s (get_or input at 0) (drop (at + 1) input)).next ≡ a
   pub rest : (turn_of s (get_or input at 0) (drop (at + 1) input)).rest ≡ drop at' input
   pub onward : at < at'

@@ -2,10 +2,20 @@
 use Rattle.std.specs.Prelude.{ℕ, ◌≤◌, ◌≡◌, List, [], length, drop, Option, Some, None}
 use Rattle.std.proofs.Math.Option as Model
 use Rattle.model.specs.Callsheet.{Sheet, commanded, operand_bytes, present_operands, sheet_from, unknown}
+use Rattle.sheet.specs.declared.Command.{Command}
+use Rattle.sheet.specs.declared.Command.TheVariants as Commanded
+
+-- the byte of a command
+unfoldable pub code_of : Command → ℕ
+code_of Commanded.NewBox = 0x01
+code_of Commanded.NewArray = 0x02
+code_of Commanded.ReadBox = 0x06
+code_of Commanded.Root = 0x0B
+code_of Commanded.Collect = 0x0C
 
 -- how many bytes of operands follow a command; none: an unknown command, or a missing operand
-unfoldable pub operands_is : Option ℕ → Model.Option ℕ
-operands_is (Some n) = Model.some n
+unfoldable pub operands_is : Option Command → Model.Option ℕ
+operands_is (Some k) = operand_bytes (code_of k)
 operands_is None = Model.none
 
 -- the operands of a command that has any stand in the bytes

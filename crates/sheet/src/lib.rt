@@ -1,39 +1,24 @@
 // Document 01's program `callsheet` over lent bytes.
 #![tactic(auto)]
 
-ghost use Rattle.std.specs.Prelude.{◌≡◌, cond, List, [], ◌∷◌, ℕ, ◌+◌, ◌*◌, ◌≤◌, ◌<◌, min, leb, length, get_or, take, drop, Option, Some, None};
+mod state;
+
+ghost use Rattle.std.specs.Prelude.{◌≡◌, [], ◌+◌, ◌*◌, ◌≤◌, ◌<◌, length, get_or, take, drop, IfSome};
+ghost use Rattle.std.proofs.Math.Option as Model;
 ghost use Rattle.map_store.specs.Store.{signed64};
 ghost use Rattle.model.specs.Calls as Calls;
 ghost use Rattle.model.specs.Callsheet.{call_of, little_endian, operand_bytes, present_operands, sheet_text};
 ghost use Rattle.heap.specs.Answers.{reading_is};
-ghost use Rattle.sheet.specs.Turns.{Supplied, operands_is, text_from};
-ghost use Rattle.sheet.specs.Promise.{Answers, Commands, OpensHeap, Prints, Roots, Shows, Turns, Whole, roots_in, shown_of, sheet_of};
+ghost use Rattle.text.specs.Writes.{Writes};
+ghost use Rattle.sheet.specs.declared.Command.TheVariants as Commanded;
+ghost use Rattle.sheet.specs.Turns.{Supplied, code_of, operands_is, text_from};
+ghost use Rattle.sheet.specs.Promise.{Answers, Commands, OpensHeap, Prints, Roots, Shows, Turns, roots_in, shown_of, sheet_of};
 
 use heap::{Heap, HeapView, Refusal};
 use layout::ReadLayout;
 use model::Weights;
-
-// What a heap of 256 slots and 2,048 cells is lent.
-#[derive(Drop)]
-struct Buffers {
-    slots: [u64; 2048],
-    scalars: [u64; 2048],
-    list: [u64; 256],
-    directory: [u64; 512],
-    cells: [u64; 2048],
-    marks: [u8; 256],
-    order: [u32; 512],
-}
-
-// A heap over its buffers, and the roots given so far: the first `count` of 64.
-#[derive(Drop)]
-struct Sheet<'a> {
-    heap: Heap,
-    buffers: Buffers,
-    layout: ReadLayout<'a>,
-    roots: [u64; 64],
-    count: usize,
-}
+use state::{Buffers, Sheet};
+use text::Writer;
 
 // What a line shows of a call.
 #[derive(Clone, Copy, Debug, PartialEq, Eq)]
@@ -42,35 +27,69 @@ pub struct SheetLine {
     pub refusal: u64,
 }
 
-// Where the next command stands, and where the text ends.
-#[derive(Clone, Copy, Debug, PartialEq, Eq)]
-pub struct Progress {
-    pub at: usize,
-    pub end: usize,
-}
-
 // ---- commands
 
-// How many bytes of operands a command has; none: it is unknown.
-#[tactic(auto, using(std::proofs::lemmas::Bool::Decides::nat_tests), unfolding(crate::specs::Turns::operands_is, model::specs::Callsheet::operand_bytes))]
-fn operand_bytes(command: u8) -> Option<usize>
-    ensures { operands_is result ≡ operand_bytes command }
-{
-    match command {
-        0x01 | 0x06 | 0x0B => Some(8),
-        0x02 => Some(9),
-        0x0C => Some(0),
-        _ => None,
+// A command that the program knows, by its byte.
+#[derive(Clone, Copy, Debug, PartialEq, Eq)]
+enum Command {
+    NewBox = 0x01,
+    NewArray = 0x02,
+    ReadBox = 0x06,
+    Root = 0x0B,
+    Collect = 0x0C,
+}
+
+impl From<Command> for u64 {
+    ghost from_gives = { λ k n. n ≡ code_of k };
+
+    #[tactic(auto, unfolding(crate::specs::Turns::code_of))]
+    fn from(command: Command) -> Self {
+        command as u64
     }
 }
 
-// The operands of the command at a place; none: it is unknown, or one is missing.
-fn operands_at(input: &[u8], at: usize) -> Option<usize>
-    requires { at < length input.now }
-    ensures { operands_is result ≡ present_operands (length (drop (at + 1) input.now)) (operand_bytes (get_or input.now at 0)) }
-{
-    let n = operand_bytes(input[at])?;
-    if n < input.len() - at { Some(n) } else { None }
+impl Command {
+    // None: the byte is unknown.
+    #[tactic(auto, using(std::proofs::lemmas::Bool::Decides::nat_tests), unfolding(crate::specs::Turns::code_of, crate::specs::Turns::operands_is, model::specs::Callsheet::operand_bytes))]
+    fn from_byte(byte: u8) -> Option<Command>
+        ensures named { IfSome result (λ k. code_of k ≡ byte) }
+        ensures operands { operands_is result ≡ operand_bytes byte }
+    {
+        match byte {
+            0x01 => Some(Command::NewBox),
+            0x02 => Some(Command::NewArray),
+            0x06 => Some(Command::ReadBox),
+            0x0B => Some(Command::Root),
+            0x0C => Some(Command::Collect),
+            _ => None,
+        }
+    }
+
+    // How many bytes of operands follow it.
+    #[tactic(auto, unfolding(crate::specs::Turns::code_of, model::specs::Callsheet::operand_bytes))]
+    fn operands(self) -> usize
+        ensures { Model.some result ≡ operand_bytes (code_of self) }
+    {
+        match self {
+            Command::NewBox | Command::ReadBox | Command::Root => 8,
+            Command::NewArray => 9,
+            Command::Collect => 0,
+        }
+    }
+
+    // The command at a place, with its operands; none: it is unknown, or one is missing.
+    fn read_at(input: &[u8], at: usize) -> Option<Command>
+        requires { at < length input.now }
+        ensures named { IfSome result (λ k. code_of k ≡ get_or input.now at 0) }
+        ensures operands { operands_is result ≡ present_operands (length (drop (at + 1) input.now)) (operand_bytes (get_or input.now at 0)) }
+    {
+        let command = Command::from_byte(input[at])?;
+        if command.operands() < input.len() - at {
+            Some(command)
+        } else {
+            None
+        }
+    }
 }
 
 // ---- lines
@@ -93,8 +112,7 @@ impl Sheet<'_> {
     // ---- calls
 
     fn call_box(&mut self, operands: &[u8]) -> Result<u64, Refusal>
-        requires in_bounds { 8 ≤ length operands.now }
-        requires whole { Whole self.old }
+        requires { 8 ≤ length operands.now }
         ensures { Shows (Calls.new_box (little_endian (take 8 operands.now))) self.old result self.new }
     {
         let w = text::read_little(operands, 0, 8);
@@ -110,8 +128,7 @@ impl Sheet<'_> {
     }
 
     fn call_array(&mut self, operands: &[u8]) -> Result<u64, Refusal>
-        requires in_bounds { 9 ≤ length operands.now }
-        requires whole { Whole self.old }
+        requires { 9 ≤ length operands.now }
         ensures { Shows (Calls.new_array (get_or operands.now 0 0) (signed64 (little_endian (take 8 (drop 1 operands.now))))) self.old result self.new }
     {
         let n = words::signed_of(text::read_little(operands, 1, 8));
@@ -128,8 +145,7 @@ impl Sheet<'_> {
     }
 
     fn call_read(&self, operands: &[u8]) -> Result<u64, Refusal>
-        requires in_bounds { 8 ≤ length operands.now }
-        requires whole { Whole self.now }
+        requires { 8 ≤ length operands.now }
         ensures { Shows (Calls.read_box (little_endian (take 8 operands.now))) self.now result self.now }
     {
         let view = HeapView {
@@ -146,7 +162,6 @@ impl Sheet<'_> {
     // How many objects are freed. The list lent for coroutines to be finalized has no place: there
     // are none.
     fn call_collect(&mut self) -> Result<u64, Refusal>
-        requires { Whole self.old }
         ensures { Shows (Calls.collect (roots_in self.old) []) self.old result self.new }
     {
         let mut places = [0u64; 1];
@@ -166,39 +181,35 @@ impl Sheet<'_> {
         Ok(collection.freed)
     }
 
-    // The call that a command other than 0B makes.
-    fn call(&mut self, command: u8, operands: &[u8]) -> Result<u64, Refusal>
-        requires supplied { Supplied command operands.now }
-        requires whole { Whole self.old }
-        ensures { Shows (call_of command operands.now (roots_in self.old)) self.old result self.new }
+    // The call that a command other than a root makes.
+    fn call(&mut self, command: Command, operands: &[u8]) -> Result<u64, Refusal>
+        requires { Supplied (code_of command) operands.now }
+        ensures { Shows (call_of (code_of command) operands.now (roots_in self.old)) self.old result self.new }
     {
         match command {
-            0x01 => self.call_box(operands),
-            0x02 => self.call_array(operands),
-            0x06 => self.call_read(operands),
-            _ => self.call_collect(),
+            Command::NewBox => self.call_box(operands),
+            Command::NewArray => self.call_array(operands),
+            Command::ReadBox => self.call_read(operands),
+            Command::Root | Command::Collect => self.call_collect(),
         }
     }
 
     // ---- turns
 
-    // A call and its line; where the text ends then.
-    fn call_turn(&mut self, command: u8, operands: &[u8], out: &mut [u8], end: usize) -> usize
-        requires supplied { Supplied command operands.now }
-        requires no_root { command ≡ 11 → ⊥ }
-        requires end_in_bounds { end + 62 ≤ length out.old }
-        requires whole { Whole self.old }
-        ensures commands { Commands (sheet_of self.old) command operands.now out.old end (sheet_of self.new) out.new result }
-        ensures whole_2 { Whole self.new }
+    // A call and its line.
+    fn call_turn(&mut self, command: Command, operands: &[u8], writer: &mut Writer<'_>)
+        requires supplied { Supplied (code_of command) operands.now }
+        requires no_root { code_of command ≡ 11 → ⊥ }
+        requires end_in_bounds { writer.old.end + 62 ≤ length writer.old.out.now }
+        ensures { Commands (sheet_of self.old) (code_of command) operands.now writer.old (sheet_of self.new) writer.new }
     {
         let line = show(self.call(command, operands));
         let used = self.heap.account.used;
-        text::put_line(out, end, u64::from(command), line.refusal, line.word, used)
+        writer.put_line(u64::from(command), line.refusal, line.word, used);
     }
 
     // One more root; there are at most 64, and the 65th is refused: 4.
     fn add_root(&mut self, w: u64) -> u64
-        requires { Whole self.old }
         ensures { Roots self.old w result self.new }
     {
         if self.count < 64 {
@@ -209,65 +220,57 @@ impl Sheet<'_> {
         4
     }
 
-    // 0B: a root and its line.
-    fn root_turn(&mut self, operands: &[u8], out: &mut [u8], end: usize) -> usize
+    // A root and its line.
+    fn root_turn(&mut self, operands: &[u8], writer: &mut Writer<'_>)
         requires in_bounds { 8 ≤ length operands.now }
-        requires end_in_bounds { end + 62 ≤ length out.old }
-        requires whole { Whole self.old }
-        ensures commands { Commands (sheet_of self.old) 11 operands.now out.old end (sheet_of self.new) out.new result }
-        ensures whole_2 { Whole self.new }
+        requires end_in_bounds { writer.old.end + 62 ≤ length writer.old.out.now }
+        ensures { Commands (sheet_of self.old) (code_of Commanded.Root) operands.now writer.old (sheet_of self.new) writer.new }
     {
         let refusal = self.add_root(text::read_little(operands, 0, 8));
-        text::put_line(out, end, 0x0B, refusal, 0, self.heap.account.used)
+        writer.put_line(u64::from(Command::Root), refusal, 0, self.heap.account.used);
     }
 
     // The command with the bytes behind it: its line.
-    fn command_turn(&mut self, command: u8, operands: &[u8], out: &mut [u8], end: usize) -> usize
-        requires supplied { Supplied command operands.now }
-        requires end_in_bounds { end + 62 ≤ length out.old }
-        requires whole { Whole self.old }
-        ensures commands { Commands (sheet_of self.old) command operands.now out.old end (sheet_of self.new) out.new result }
-        ensures whole_2 { Whole self.new }
+    fn command_turn(&mut self, command: Command, operands: &[u8], writer: &mut Writer<'_>)
+        requires supplied { Supplied (code_of command) operands.now }
+        requires end_in_bounds { writer.old.end + 62 ≤ length writer.old.out.now }
+        ensures { Commands (sheet_of self.old) (code_of command) operands.now writer.old (sheet_of self.new) writer.new }
     {
-        if command == 0x0B {
-            self.root_turn(operands, out, end)
-        } else {
-            self.call_turn(command, operands, out, end)
+        match command {
+            Command::Root => self.root_turn(operands, writer),
+            _ => self.call_turn(command, operands, writer),
         }
     }
 
-    // The command at a place, and its line.
-    fn turn(&mut self, input: &[u8], at: usize, out: &mut [u8], end: usize) -> Progress
+    // The command at a place, and its line; where the next one stands.
+    fn turn(&mut self, input: &[u8], at: usize, writer: &mut Writer<'_>) -> usize
         requires at_in_bounds { at < length input.now }
-        requires end_in_bounds { end + 62 ≤ length out.old }
-        requires whole { Whole self.old }
-        ensures turns { Turns (sheet_of self.old) input.now at out.old end (sheet_of self.new) result.at out.new result.end }
-        ensures whole_2 { Whole self.new }
+        requires end_in_bounds { writer.old.end + 62 ≤ length writer.old.out.now }
+        ensures { Turns (sheet_of self.old) input.now at writer.old (sheet_of self.new) result writer.new }
     {
         let start = at + 1;
-        match operands_at(input, at) {
-            None => Progress {
-                at: input.len(),
-                end: text::put_unknown(out, end, self.heap.account.used),
-            },
-            Some(n) => Progress {
-                at: start + n,
-                end: self.command_turn(input[at], &input[start..], out, end),
-            },
+        match Command::read_at(input, at) {
+            None => {
+                writer.put_unknown(self.heap.account.used);
+                input.len()
+            }
+            Some(command) => {
+                let next = start + command.operands();
+                self.command_turn(command, &input[start..], writer);
+                next
+            }
         }
     }
 
-    // All commands: where their text ends.
-    fn play(&mut self, input: &[u8], out: &mut [u8]) -> usize
-        requires out_in_bounds { length input.now * 62 ≤ length out.old }
-        requires whole { Whole self.old }
-        ensures { Prints (text_from (sheet_of self.old) input.now) out.old out.new result }
+    // All commands, and their text.
+    fn play(&mut self, input: &[u8], writer: &mut Writer<'_>)
+        requires { writer.old.end + length input.now * 62 ≤ length writer.old.out.now }
+        ensures { Writes (text_from (sheet_of self.old) input.now) writer.old writer.new }
     {
-        let mut p = Progress { at: 0, end: 0 };
-        while p.at < input.len() {
-            p = self.turn(input, p.at, out, p.end);
+        let mut at = 0;
+        while at < input.len() {
+            at = self.turn(input, at, writer);
         }
-        p.end
     }
 }
 
@@ -342,7 +345,9 @@ fn run_new(input: &[u8], out: &mut [u8]) -> usize
         roots: [0; 64],
         count: 0,
     };
-    sheet.play(input, out)
+    let mut writer = Writer { out, end: 0 };
+    sheet.play(input, &mut writer);
+    writer.end
 }
 
 // Document 01's program `callsheet`: the text that it prints for the bytes of its standard input, of

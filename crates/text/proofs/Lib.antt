@@ -1,3 +1,4 @@
 pub mod PutsLaws
+pub mod WritesLaws
 pub mod DigitsLaws
 pub mod LittleLaws

@@ -5,8 +5,8 @@ use mathlib.Core.List.{List, [], ◌∷◌, ◌++◌, append_assoc, append-nil}
 use native.Mathlib.Omega.{arith}
 use native.Mathlib.Numerals.{add-one}
 use native.Mathlib.Nat.{add-zero, sub-zero}
-use lib.ListN.{length, set, take, drop, length-append, length-set}
-use lib.Seq.{take-suc-set, take-set-le, take-add, drop-cons, drop-drop, get_or-set_same, drop-set-lt}
+use lib.ListN.{length, set, take, drop, length-append, length-set, length-take}
+use lib.Seq.{take-suc-set, take-set-le, take-add, drop-cons, length-take-le, drop-drop, get_or-set_same, drop-set-lt}
 use Rattle.model.specs.Callsheet.{digit, digits, printed}
 use Rattle.text.specs.Puts.{Puts}
 use Rattle.text.specs.Lines.{line_fields, line_head}
@@ -42,6 +42,12 @@ puts-byte out at b h = record {
   text = rw (add-one at) (take-suc-set out at b h);
   rest = drop-set-lt (at + 1) out at b (omega arith);
 }
+
+-- a text stands in its buffer
+pub puts-within : {t out : List ℕ} {at : ℕ} {out' : List ℕ} {r : ℕ} → at ≤ length out → Puts t out at out' r → r ≤ length out'
+puts-within {t} {out} {at} {out'} {r} l p =
+    let a : length (take r out') ≡ at + length t = ap length p.text ∙ length-append (take at out) t ∙ rw (length-take-le at out l) in
+    omega (arith, p.ends, a, length-take r out')
 
 -- ---- digits from the lowest up: those left and those that stand come to the whole
 

@@ -23,6 +23,7 @@ enum Command {
 
 impl Command {
     fn from_byte(byte: u8) -> Option<Command> {
+        // What a byte means stands here once, as rows.
         match byte {
             0x00 => Some(Command::Open),
             0x60 => Some(Command::Truth),
@@ -37,17 +38,42 @@ impl Command {
     }
 }
 
-// What a command answers: a refusal's number or 0, a word, and a number where there are two.
-#[derive(Clone, Copy)]
-struct Line {
-    refusal: u64,
+// Why there is no answer, by the number that is printed.
+#[derive(Clone, Copy, Debug, PartialEq, Eq)]
+enum Refusal {
+    // An unknown command, or a missing operand.
+    NoCommand = 4,
+    BadOpening = 10,
+}
+
+impl From<Refusal> for u64 {
+    fn from(refusal: Refusal) -> Self {
+        refusal as u64
+    }
+}
+
+impl From<BadLayout> for Refusal {
+    fn from(_: BadLayout) -> Self {
+        Refusal::BadOpening
+    }
+}
+
+impl fmt::Display for Refusal {
+    fn fmt<W: fmt::Write>(&self, f: &mut fmt::Formatter<W>) -> fmt::Result {
+        write!(f, "{} 0000000000000000 0", u64::from(*self))
+    }
+}
+
+// What a command answers: a word, and a number where there are two.
+#[derive(Clone, Copy, Debug, PartialEq, Eq)]
+struct Answer {
     word: u64,
     extra: Option<u64>,
 }
 
-impl fmt::Display for Line {
+impl fmt::Display for Answer {
     fn fmt<W: fmt::Write>(&self, f: &mut fmt::Formatter<W>) -> fmt::Result {
-        write!(f, "{} {:016X} 0", self.refusal, self.word)?;
+        write!(f, "0 {:016X} 0", self.word)?;
         match self.extra {
             Some(extra) => write!(f, " {extra}"),
             None => Ok(()),
@@ -55,27 +81,14 @@ impl fmt::Display for Line {
     }
 }
 
-fn answered(word: u64) -> Line {
-    Line {
-        refusal: 0,
-        word,
-        extra: None,
-    }
+fn answered(word: u64) -> Answer {
+    Answer { word, extra: None }
 }
 
-fn answered_with(word: u64, extra: u64) -> Line {
-    Line {
-        refusal: 0,
+fn answered_with(word: u64, extra: u64) -> Answer {
+    Answer {
         word,
         extra: Some(extra),
-    }
-}
-
-fn refused(number: u64) -> Line {
-    Line {
-        refusal: number,
-        word: 0,
-        extra: None,
     }
 }
 
@@ -97,26 +110,29 @@ impl<'a> Script<'a> {
         Some(*byte)
     }
 
-    fn word(&mut self) -> Option<u64>
+    fn word(&mut self) -> Result<u64, Refusal>
         ensures { length self.new.rest.now ≤ length self.old.rest.now }
     {
-        let (bytes, rest) = self.rest.split_first_chunk()?;
+        let (bytes, rest) = self.rest.split_first_chunk().ok_or(Refusal::NoCommand)?;
         self.rest = rest;
-        Some(u64::from_le_bytes(*bytes))
+        Ok(u64::from_le_bytes(*bytes))
     }
 
-    fn bytes(&mut self, count: u64) -> Option<&'a [u8]>
+    fn bytes(&mut self, count: u64) -> Result<&'a [u8], Refusal>
         ensures { length self.new.rest.now ≤ length self.old.rest.now }
     {
-        let (bytes, rest) = self.rest.split_at_checked(count as usize)?;
+        let (bytes, rest) = self
+            .rest
+            .split_at_checked(count as usize)
+            .ok_or(Refusal::NoCommand)?;
         self.rest = rest;
-        Some(bytes)
+        Ok(bytes)
     }
 }
 
 // ---- the calls
 
-fn integer(number: i64) -> Line {
+fn integer(number: i64) -> Answer {
     match words::inline_int(number) {
         Some(word) => answered_with(word, 1),
         None => answered_with(0, 0),
@@ -124,7 +140,7 @@ fn integer(number: i64) -> Line {
 }
 
 // A value and its kind's number; floats by their bits, of which a NaN has one pattern.
-fn reading(word: u64) -> Line {
+fn reading(word: u64) -> Answer {
     match words::decode(word) {
         Raw::Nil => answered_with(0, 0),
         Raw::Bool(b) => answered_with(u64::from(b), 1),
@@ -135,8 +151,8 @@ fn reading(word: u64) -> Line {
     }
 }
 
-// An opening, by its sizes, its weights and its layout; nothing where the script ends in it.
-fn opening(script: &mut Script) -> Option<Line>
+// An opening, by its sizes, its weights and its layout.
+fn opening(script: &mut Script) -> Result<Answer, Refusal>
     ensures { length script.new.rest.now ≤ length script.old.rest.now }
 {
     let slots = script.word()?;
@@ -152,44 +168,42 @@ fn opening(script: &mut Script) -> Option<Line>
         || cells > 1048576
         || !weights.iter().all(|weight| (1..=4096).contains(weight))
     {
-        return Some(refused(10));
+        return Err(Refusal::BadOpening);
     }
     let mut table = [0u64; 514];
-    match layout::read_layout(layout, &mut table) {
-        Ok(()) => Some(answered(0)),
-        Err(BadLayout) => Some(refused(10)),
-    }
+    layout::read_layout(layout, &mut table)?;
+    Ok(answered(0))
 }
 
-// A command's answer by the operands that follow it; nothing where one is missing.
-fn perform(command: Command, script: &mut Script) -> Option<Line>
+// A command's answer by the operands that follow it.
+fn perform(command: Command, script: &mut Script) -> Result<Answer, Refusal>
     ensures { length script.new.rest.now ≤ length script.old.rest.now }
 {
     match command {
         Command::Open => opening(script),
         Command::Truth => {
-            let truth = script.byte()? != 0;
-            Some(answered(words::from_bool(truth)))
+            let truth = script.byte().ok_or(Refusal::NoCommand)? != 0;
+            Ok(answered(words::from_bool(truth)))
         }
         Command::Character => {
             let character = script.word()?;
-            Some(answered(words::from_char((character % 0x1_0000_0000) as u32)))
+            Ok(answered(words::from_char((character % 0x1_0000_0000) as u32)))
         }
         Command::Float => {
             let float = f64_from_bits_with_nan(script.word()?);
-            Some(answered(words::from_f64(float)))
+            Ok(answered(words::from_f64(float)))
         }
-        Command::Integer => Some(integer(script.word()?.cast_signed())),
+        Command::Integer => Ok(integer(script.word()?.cast_signed())),
         Command::Reference => {
             let slot = script.word()?;
             let tag = script.word()?;
-            Some(answered(words::from_ref((slot % 0x1_0000_0000) as u32, (tag % 0x1_0000) as u16)))
+            Ok(answered(words::from_ref((slot % 0x1_0000_0000) as u32, (tag % 0x1_0000) as u16)))
         }
-        Command::Read => Some(reading(script.word()?)),
+        Command::Read => Ok(reading(script.word()?)),
         Command::Same => {
             let first = script.word()?;
             let second = script.word()?;
-            Some(answered(u64::from(words::same(first, second))))
+            Ok(answered(u64::from(words::same(first, second))))
         }
     }
 }
@@ -198,15 +212,15 @@ fn perform(command: Command, script: &mut Script) -> Option<Line>
 fn run(rt: &impl Print, script: &[u8]) -> io::Result<()> {
     let mut script = Script { rest: script };
     while let Some(byte) = script.byte() {
-        let line = match Command::from_byte(byte) {
+        let answer = match Command::from_byte(byte) {
             Some(command) => perform(command, &mut script),
-            None => None,
+            None => Err(Refusal::NoCommand),
         };
-        let Some(line) = line else {
-            let line = refused(4);
-            return println!(rt; "?? {line}");
-        };
-        println!(rt; "{byte:02X} {line}")?;
+        match answer {
+            Ok(answer) => println!(rt; "{byte:02X} {answer}")?,
+            Err(Refusal::BadOpening) => println!(rt; "{byte:02X} {}", Refusal::BadOpening)?,
+            Err(Refusal::NoCommand) => return println!(rt; "?? {}", Refusal::NoCommand),
+        }
     }
     Ok(())
 }

@@ -1,14 +1,9 @@
-use Rattle.std.proofs.lemmas.Result.{err_from_is_err_and}
-use Rattle.collections_iterators.proofs.IteratorLaws.{ended_read, ended-refused, iterator-scalars-fit}
+use mathlib.Core.Path.{refl}
+use Rattle.collections_iterators.proofs.IteratorLaws.{ended_read, passed-on, shown-ok}
 use Rattle.collections_iterators.proofs.iter_ended.Goals as goal
 
-pub read_part-x-requires : goal.read_part-x-requires
-read_part-x-requires c = iterator-scalars-fit c.args.view.now.good c.locate.ensures c.in_ok-i.was
-
-pub returns-in_err-i : goal.returns-in_err-i
-returns-in_err-i c =
-    let p = err_from_is_err_and c.from_residual.result c.from_residual.ensures.1 in
-    rw (p.1, p.2) (ended-refused c.args.view.now.good c.locate.ensures c.in_err-i.was)
+pub returns-in_err-iterator_at : goal.returns-in_err-iterator_at
+returns-in_err-iterator_at c = passed-on _ _ (ended_read c.args.view.now.good c.iterator_at.ensures) _ c.in_err-iterator_at.was c.from_residual.ensures.1
 
 pub returns : goal.returns
-returns c = ended_read c.args.view.now.good c.locate.ensures c.in_ok-i.was c.read_part-x.ensures
+returns c = shown-ok _ _ (ended_read c.args.view.now.good c.iterator_at.ensures) c.in_ok-iterator_at.was refl

@@ -1,17 +1,11 @@
-use Rattle.std.proofs.lemmas.Result.{err_from_is_err_and}
-use Rattle.collections_iterators.proofs.IteratorLaws.{iterator-scalars-fit, key-none, key-refused, key-some}
+use Rattle.collections_iterators.proofs.IteratorLaws.{key_read, none-shown, passed-on, shown-ok, some-shown}
 use Rattle.collections_iterators.proofs.iter_key.Goals as goal
 
-pub read_part-x-requires : goal.read_part-x-requires
-read_part-x-requires c = iterator-scalars-fit c.args.view.now.good c.locate.ensures c.in_ok-i.was
+pub returns-in_err-x : goal.returns-in_err-x
+returns-in_err-x c = passed-on _ _ (key_read c.args.view.now.good c.iterator_at.ensures) _ c.in_err-x.was c.from_residual.ensures.1
 
 pub returns-then-x-eq0 : goal.returns-then-x-eq0
-returns-then-x-eq0 c = key-none c.args.view.now.good c.locate.ensures c.in_ok-i.was c.read_part-x.ensures c.if-x-eq0.true
-
-pub returns-in_err-i : goal.returns-in_err-i
-returns-in_err-i c =
-    let p = err_from_is_err_and c.from_residual.result c.from_residual.ensures.1 in
-    rw (p.1, p.2) (key-refused c.args.view.now.good c.locate.ensures c.in_err-i.was)
+returns-then-x-eq0 c = shown-ok _ _ (key_read c.args.view.now.good c.iterator_at.ensures) c.in_ok-x.was (none-shown _ c.if-x-eq0.true)
 
 pub returns-else-x-eq0 : goal.returns-else-x-eq0
-returns-else-x-eq0 c = key-some c.args.view.now.good c.locate.ensures c.in_ok-i.was c.read_part-x.ensures c.if-x-eq0.false
+returns-else-x-eq0 c = shown-ok _ _ (key_read c.args.view.now.good c.iterator_at.ensures) c.in_ok-x.was (some-shown c.if-x-eq0.false)

@@ -1,7 +1,6 @@
 use mathlib.Core.Path.{sym, ◌∙◌}
 use borrow.Author.Rules.{rules}
 use Rattle.collector_marking.proofs.Doing.{grows}
-use Rattle.collector_marking.proofs.Adding.{adds_fit}
 use Rattle.collector_marking.proofs.Scanning.{listing_step, phase-is}
 use Rattle.collector_marking.proofs.mark_from.Goals as goal
 
@@ -10,9 +9,6 @@ trace-requires-clause-visited_le_marked c = grows c.requires.marks_fit.count c.m
 
 pub trace-requires-clause-sound : goal.trace-requires-clause-sound
 trace-requires-clause-sound c = rw (c.mark_words.ensures.same.slots, c.mark_words.ensures.same.fresh) c.requires.sound
-
-pub trace-requires-clause-fit : goal.trace-requires-clause-fit
-trace-requires-clause-fit c = adds_fit c.requires.marks_fit c.mark_words.ensures
 
 pub trace-requires-clause-listing : goal.trace-requires-clause-listing
 trace-requires-clause-listing c = rw (c.mark_words.ensures.same.slots, c.mark_words.ensures.same.fresh) (listing_step c.requires.marks_fit.len c.requires.listing c.mark_words.ensures.marked)

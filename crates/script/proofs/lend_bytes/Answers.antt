@@ -1,4 +1,3 @@
-use native.Mathlib.Omega.{arith}
 use Rattle.std.proofs.Common.{◌∙◌, length}
 use lib.Seq.{length-take-le}
 use Rattle.script.proofs.LendLaws.{fronts, lends_buffer, lends_bytes}

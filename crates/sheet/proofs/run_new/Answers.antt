@@ -1,4 +1,6 @@
 use Rattle.std.proofs.Common.{refl, rules}
+use Rattle.text.proofs.WritesLaws.{writes-lent}
+use Rattle.sheet.proofs.PlayLaws.{puts_prints}
 use Rattle.sheet.proofs.OpeningLaws.{Long, never_refused, opened-tabled, opened-whole, opened_prints}
 use Rattle.sheet.proofs.run_new.Goals as goal
 
@@ -12,12 +14,12 @@ invariant_of-layout c =
     let b : Long c.new-buffers.result = record { slots = search rules; scalars = search rules; list = search rules; directory = search rules; cells = search rules; marks = search rules; order = search rules } in
     record { tabled = opened-tabled b refl c.«open».ensures _ c.in-Ok.is }
 
-pub play-requires-clause-whole : goal.play-requires-clause-whole
-play-requires-clause-whole c =
+pub invariant_of-sheet : goal.invariant_of-sheet
+invariant_of-sheet c =
     let b : Long c.new-buffers.result = record { slots = search rules; scalars = search rules; list = search rules; directory = search rules; cells = search rules; marks = search rules; order = search rules } in
-    opened-whole b refl c.«open».ensures _ c.in-Ok.is _ _
+    record { whole = opened-whole b refl c.«open».ensures _ c.in-Ok.is }
 
 pub returns : goal.returns
 returns c =
     let b : Long c.new-buffers.result = record { slots = search rules; scalars = search rules; list = search rules; directory = search rules; cells = search rules; marks = search rules; order = search rules } in
-    opened_prints b refl c.«open».ensures _ c.in-Ok.is c.args.input.now c.requires.input_len_bound c.play.ensures
+    opened_prints b refl c.«open».ensures _ c.in-Ok.is c.args.input.now c.requires.input_len_bound (puts_prints (writes-lent c.play.ensures c.out-1.given.1.1))

@@ -1,15 +1,9 @@
-use Rattle.std.proofs.lemmas.Result.{err_from_is_err_and}
-use Rattle.heap.proofs.ReachLaws.{located_fits}
-use Rattle.collections_maps.proofs.MapLaws.{capacity-refused, capacity_read}
+use mathlib.Core.Path.{refl}
+use Rattle.collections_maps.proofs.MapLaws.{capacity_read, passed-on, shown-ok}
 use Rattle.collections_maps.proofs.readings.entry_capacity.Goals as goal
 
-pub read_header-requires : goal.read_header-requires
-read_header-requires c = located_fits c.args.view.now.good c.locate.ensures c.in_ok-i.was
-
-pub returns-in_err-i : goal.returns-in_err-i
-returns-in_err-i c =
-    let p = err_from_is_err_and c.from_residual.result c.from_residual.ensures.1 in
-    rw (p.1, p.2) (capacity-refused c.args.view.now.good c.locate.ensures c.in_err-i.was)
+pub returns-in_err-map_parts : goal.returns-in_err-map_parts
+returns-in_err-map_parts c = passed-on _ _ (capacity_read c.args.view.now.good c.map_parts.ensures) _ c.in_err-map_parts.was c.from_residual.ensures.1
 
 pub returns : goal.returns
-returns c = capacity_read c.args.view.now.good c.locate.ensures c.in_ok-i.was c.read_header.ensures
+returns c = shown-ok _ _ (capacity_read c.args.view.now.good c.map_parts.ensures) c.in_ok-map_parts.was refl

@@ -1,14 +1,9 @@
-use Rattle.std.proofs.lemmas.Result.{err_from_is_err_and}
-use Rattle.collections_maps.proofs.MapLaws.{map-scalars-fit, live-refused, live_read}
+use mathlib.Core.Path.{refl}
+use Rattle.collections_maps.proofs.MapLaws.{live_read, passed-on, shown-ok}
 use Rattle.collections_maps.proofs.readings.live_count.Goals as goal
 
-pub read_part-x-requires : goal.read_part-x-requires
-read_part-x-requires c = map-scalars-fit c.args.view.now.good c.locate.ensures c.in_ok-i.was
-
-pub returns-in_err-i : goal.returns-in_err-i
-returns-in_err-i c =
-    let p = err_from_is_err_and c.from_residual.result c.from_residual.ensures.1 in
-    rw (p.1, p.2) (live-refused c.args.view.now.good c.locate.ensures c.in_err-i.was)
+pub returns-in_err-map_parts : goal.returns-in_err-map_parts
+returns-in_err-map_parts c = passed-on _ _ (live_read c.args.view.now.good c.map_parts.ensures) _ c.in_err-map_parts.was c.from_residual.ensures.1
 
 pub returns : goal.returns
-returns c = live_read c.args.view.now.good c.locate.ensures c.in_ok-i.was c.read_part-x.ensures
+returns c = shown-ok _ _ (live_read c.args.view.now.good c.map_parts.ensures) c.in_ok-map_parts.was refl

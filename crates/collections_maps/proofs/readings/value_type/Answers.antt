@@ -1,14 +1,9 @@
-use Rattle.std.proofs.lemmas.Result.{err_from_is_err_and}
-use Rattle.collections_maps.proofs.MapLaws.{map-scalars-fit, value-type-refused, value-type_read}
+use mathlib.Core.Path.{refl}
+use Rattle.collections_maps.proofs.MapLaws.{value-type_read, passed-on, shown-ok}
 use Rattle.collections_maps.proofs.readings.value_type.Goals as goal
 
-pub read_part-x-requires : goal.read_part-x-requires
-read_part-x-requires c = map-scalars-fit c.args.view.now.good c.locate.ensures c.in_ok-i.was
-
-pub returns-in_err-i : goal.returns-in_err-i
-returns-in_err-i c =
-    let p = err_from_is_err_and c.from_residual.result c.from_residual.ensures.1 in
-    rw (p.1, p.2) (value-type-refused c.args.view.now.good c.locate.ensures c.in_err-i.was)
+pub returns-in_err-map_parts : goal.returns-in_err-map_parts
+returns-in_err-map_parts c = passed-on _ _ (value-type_read c.args.view.now.good c.map_parts.ensures) _ c.in_err-map_parts.was c.from_residual.ensures.1
 
 pub returns : goal.returns
-returns c = value-type_read c.args.view.now.good c.locate.ensures c.in_ok-i.was c.read_part-x.ensures
+returns c = shown-ok _ _ (value-type_read c.args.view.now.good c.map_parts.ensures) c.in_ok-map_parts.was refl

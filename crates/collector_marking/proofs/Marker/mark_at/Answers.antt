@@ -7,10 +7,10 @@ use Rattle.collector_marking.proofs.Traced.{at_out, at_in}
 use Rattle.collector_marking.proofs.Marker.mark_at.Goals as goal
 
 pub returns-in_default : goal.returns-in_default
-returns-in_default c = adds_as (at_out c.args.words.now c.args.base c.args.n (omega arith)) (adds-none c.requires)
+returns-in_default c = adds_as (at_out c.args.words.now c.args.base c.args.n (omega arith)) adds-none
 
 pub returns-in_default-get : goal.returns-in_default-get
-returns-in_default-get c = adds_as (at_out c.args.words.now c.args.base c.args.n (grind (arith, c.in_default-get.ensures.lookup))) (adds-none c.requires)
+returns-in_default-get c = adds_as (at_out c.args.words.now c.args.base c.args.n (grind (arith, c.in_default-get.ensures.lookup))) adds-none
 
 pub returns-in-Some-get : goal.returns-in-Some-get
 returns-in-Some-get c =

@@ -1,7 +1,7 @@
 use Prim.Native.Nat.{◌<◌, ◌≤◌}
 use lib.ListN.{length}
 use native.Mathlib.Omega.{arith}
-use Rattle.collector_marking.proofs.Adding.{going_start, going_step, going_end, going_fit}
+use Rattle.collector_marking.proofs.Adding.{going_start, going_step, going_end}
 use Rattle.collector_marking.proofs.Traced.{capture-front, capture-short, capture-end}
 use Rattle.collector_marking.proofs.Marker.mark_captures.Goals as goal
 
@@ -15,7 +15,4 @@ pub returns : goal.returns
 returns c = going_end c.loop-capture.invariant (let h : length c.args.captures.now ≤ c.loop-capture.capture-index = omega arith in capture-short _ _ _ h)
 
 pub loop-capture-init : goal.loop-capture-init
-loop-capture-init c = going_start c.requires
-
-pub mark_typed-requires : goal.mark_typed-requires
-mark_typed-requires c = going_fit c.requires c.loop-capture.invariant
+loop-capture-init c = going_start

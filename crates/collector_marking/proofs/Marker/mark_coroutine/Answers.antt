@@ -10,4 +10,4 @@ use Rattle.collector_marking.proofs.Traced.{part-rest}
 use Rattle.collector_marking.proofs.Marker.mark_coroutine.Goals as goal
 
 pub returns : goal.returns
-returns c = adds_as (ap (λ (fs : List ℕ). c.args.waiting ++ frame_words (layout_of c.args.layout.bytes.now) (take c.args.len c.args.cells.now) (frames_in fs 0 c.args.count)) (sym (part-rest c.args.len c.args.cells.now))) (adds_both c.requires.fit c.mark_words.ensures c.mark_frames.ensures)
+returns c = adds_as (ap (λ (fs : List ℕ). c.args.waiting ++ frame_words (layout_of c.args.layout.bytes.now) (take c.args.len c.args.cells.now) (frames_in fs 0 c.args.count)) (sym (part-rest c.args.len c.args.cells.now))) (adds_both c.mark_words.ensures c.mark_frames.ensures)

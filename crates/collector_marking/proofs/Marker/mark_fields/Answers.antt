@@ -1,12 +1,9 @@
-use Rattle.collector_marking.proofs.Adding.{going_start, going_step, going_end, going_fit}
+use Rattle.collector_marking.proofs.Adding.{going_start, going_step, going_end}
 use Rattle.collector_marking.proofs.Traced.{field-front, picked_end}
 use Rattle.collector_marking.proofs.Marker.mark_fields.Goals as goal
 
 pub loop-number-init : goal.loop-number-init
-loop-number-init c = going_start c.requires
-
-pub mark_at-requires : goal.mark_at-requires
-mark_at-requires c = going_fit c.requires c.loop-number.invariant
+loop-number-init c = going_start
 
 pub loop-number-preserved : goal.loop-number-preserved
 loop-number-preserved c = going_step c.loop-number.invariant (field-front _ _ c.in-Some.ensures.lists) c.mark_at.ensures

@@ -6,4 +6,4 @@ pub returns-then-ty-ge1 : goal.returns-then-ty-ge1
 returns-then-ty-ge1 c = adds_as (items-traced _ c.args.items.now c.if-ty-ge1.true) c.mark_words.ensures
 
 pub returns-else-ty-ge1 : goal.returns-else-ty-ge1
-returns-else-ty-ge1 c = adds_as (items_plain _ c.args.items.now c.if-ty-ge1.false) (adds-none c.requires)
+returns-else-ty-ge1 c = adds_as (items_plain _ c.args.items.now c.if-ty-ge1.false) adds-none

@@ -46,13 +46,13 @@ pub returns-in-4 : goal.returns-in-4
 returns-in-4 c = adds_as (kids_held _ _ _ _ _ c.read_header-h.ensures (omega arith) (omega arith)) c.mark_word.ensures
 
 pub returns-then-h-lt3 : goal.returns-then-h-lt3
-returns-then-h-lt3 c = adds_as (kids_none _ _ _ _ _ c.read_header-h.ensures (kind_range _ _ _ _ _ c.read_header-h.ensures c.requires.sound c.requires.present).0 (omega arith)) (adds-none c.requires.fit)
+returns-then-h-lt3 c = adds_as (kids_none _ _ _ _ _ c.read_header-h.ensures (kind_range _ _ _ _ _ c.read_header-h.ensures c.requires.sound c.requires.present).0 (omega arith)) adds-none
 
 pub returns-else-h-lt6 : goal.returns-else-h-lt6
 returns-else-h-lt6 c = absurd (no_kind _ (omega arith) (kind_range _ _ _ _ _ c.read_header-h.ensures c.requires.sound c.requires.present).1 (λ e. omega arith) (λ e. omega arith) (λ e. omega arith) (λ e. omega arith) (λ e. omega arith) (λ e. omega arith))
 
-pub mark_entries-requires-clause-count_in_bounds : goal.mark_entries-requires-clause-count_in_bounds
-mark_entries-requires-clause-count_in_bounds c = entries-inside _ _ _ _ _ c.read_header-h.ensures c.requires.sound c.requires.present c.in-7.is
+pub mark_entries-requires : goal.mark_entries-requires
+mark_entries-requires c = entries-inside _ _ _ _ _ c.read_header-h.ensures c.requires.sound c.requires.present c.in-7.is
 
-pub mark_coroutine-requires-clause-cells_len : goal.mark_coroutine-requires-clause-cells_len
-mark_coroutine-requires-clause-cells_len c = frames-inside _ _ _ _ _ c.read_header-h.ensures c.requires.sound c.requires.present c.read_part-x-in-11.ensures c.in-11.is
+pub mark_coroutine-requires : goal.mark_coroutine-requires
+mark_coroutine-requires c = frames-inside _ _ _ _ _ c.read_header-h.ensures c.requires.sound c.requires.present c.read_part-x-in-11.ensures c.in-11.is

@@ -5,7 +5,7 @@ use native.Mathlib.Omega.{arith}
 use Rattle.std.proofs.Common.{get_or, Bor}
 use Rattle.layout.specs.Sections.{layout_of}
 use Rattle.collector_marking.specs.Children.{children}
-use Rattle.collector_marking.proofs.Scanning.{scanning_few, scanning_room, scanning_fit, scanning-end, scanning_slot, tracing_step, scanning_marks}
+use Rattle.collector_marking.proofs.Scanning.{scanning_few, scanning_room, scanning-end, scanning_slot, tracing_step, scanning_marks}
 use Rattle.collector_marking.proofs.Marker.trace.Goals as goal
 
 pub offset_bounds-self-v : goal.offset_bounds-self-v
@@ -28,9 +28,6 @@ mark_next-requires-clause-present c = rw (c.loop-v.invariant.same.slots, c.loop-
 
 pub mark_next-requires-clause-sound : goal.mark_next-requires-clause-sound
 mark_next-requires-clause-sound c = rw (c.loop-v.invariant.same.slots, c.loop-v.invariant.same.fresh) c.requires.sound
-
-pub mark_next-requires-clause-fit : goal.mark_next-requires-clause-fit
-mark_next-requires-clause-fit c = rw (c.loop-v.invariant.same.slots, c.loop-v.invariant.same.fresh) (scanning_fit c.loop-v.invariant.scanning c.requires.fit)
 
 pub returns-clause-marks_after : goal.returns-clause-marks_after
 returns-clause-marks_after c = scanning_marks c.loop-v.invariant.scanning c.loop-v-test.false

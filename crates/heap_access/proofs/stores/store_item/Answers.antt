@@ -8,8 +8,8 @@ use Rattle.heap_access.proofs.stores.store_item.Goals as goal
 pub returns-in_err-at : goal.returns-in_err-at
 returns-in_err-at c = item_lost _ _ _ c.requires c.locate.ensures c.in_err-at.was c.from_residual.ensures.1
 
-pub returns-then-not-allows_nothing : goal.returns-then-not-allows_nothing
-returns-then-not-allows_nothing c = item-over _ _ c.requires c.locate.ensures c.in_ok-at.was c.allows_nothing.ensures.accepted c.if-not-allows_nothing.true
+pub returns-then-not-zero_fits : goal.returns-then-not-zero_fits
+returns-then-not-zero_fits c = item-over _ _ c.requires c.locate.ensures c.in_ok-at.was c.zero_fits.ensures.is c.if-not-zero_fits.true
 
 pub read_header-h-requires : goal.read_header-h-requires
 read_header-h-requires c = located_fits c.requires c.locate.ensures c.in_ok-at.was
@@ -24,7 +24,7 @@ pub bounds-cells-h : goal.bounds-cells-h
 bounds-cells-h c = omega (arith, words-place (words-fit c.requires item-words) c.locate.ensures c.in_ok-at.was c.read_header-h.ensures c.if-i-h.true)
 
 pub returns-then-i-h : goal.returns-then-i-h
-returns-then-i-h c = item_stored _ _ c.requires c.locate.ensures c.in_ok-at.was c.allows_nothing.ensures.accepted c.if-not-allows_nothing.false c.allows_nothing.ensures.unchanged c.read_header-h.ensures c.if-i-h.true
+returns-then-i-h c = item_stored _ _ c.requires c.locate.ensures c.in_ok-at.was c.zero_fits.ensures.is c.if-not-zero_fits.false c.zero_fits.ensures.same c.read_header-h.ensures c.if-i-h.true
 
 pub returns-else-i-h : goal.returns-else-i-h
-returns-else-i-h c = item-outside _ _ c.requires c.locate.ensures c.in_ok-at.was c.allows_nothing.ensures.accepted c.if-not-allows_nothing.false c.allows_nothing.ensures.unchanged c.read_header-h.ensures c.if-i-h.false
+returns-else-i-h c = item-outside _ _ c.requires c.locate.ensures c.in_ok-at.was c.zero_fits.ensures.is c.if-not-zero_fits.false c.zero_fits.ensures.same c.read_header-h.ensures c.if-i-h.false

@@ -16,9 +16,9 @@ finish-requires c =
 pub returns-in_err-prepare : goal.returns-in_err-prepare
 returns-in_err-prepare c =
     let p = err_from_is_err_and c.from_residual.result c.from_residual.ensures.1 in
-    rw (p.1, p.2) (words-refused c.prepare.ensures 6 0 c.args.t (replicate c.args.n 0) c.in_err-prepare.was c.word_bytes-bytes.ensures)
+    rw (p.1, p.2) (words-refused c.prepare.ensures 6 0 c.args.t (replicate c.args.n 0) c.in_err-prepare.was c.with_each-bytes.ensures)
 
 pub returns : goal.returns
 returns c =
     let y = c.prepare.ensures.accepted c.in_ok-prepare.was in
-    words-made c.prepare.ensures 6 0 c.args.t c.in_ok-prepare.was (above_filled c.fill.ensures) (filled-region c.fill.ensures y.placeable.region) refl c.word_bytes-bytes.ensures c.finish.ensures
+    words-made c.prepare.ensures 6 0 c.args.t c.in_ok-prepare.was (above_filled c.fill.ensures) (filled-region c.fill.ensures y.placeable.region) refl c.with_each-bytes.ensures c.finish.ensures

@@ -2,4 +2,4 @@ use Rattle.std.proofs.Common.{◌-◌, length}
 use Rattle.map_vectors.proofs.Replay.turns.Given as goal
 
 abbrev pub decreases-loop-at : goal.decreases-loop-at
-decreases-loop-at g l = length l.input - l.at
+decreases-loop-at g l = length l.input.bytes.now - l.at

@@ -5,7 +5,7 @@ use Rattle.script.proofs.TurnLaws.{lendable-bytes, lendable-places, lent-ended, 
 use Rattle.script.proofs.Session.lent_turn.Goals as goal
 
 pub returns-then-not-can_lend : goal.returns-then-not-can_lend
-returns-then-not-can_lend c = lent-ended c.args.code c.shape_of-s.result c.shape_of-s.ensures c.args.k c.requires.known_value.0 c.can_lend.ensures c.requires.session_ready c.if-not-can_lend.true (omega (arith, c.requires.placed.onward, c.requires.placed.within)) c.ended.ensures
+returns-then-not-can_lend c = lent-ended c.args.code c.shape_of-s.result c.shape_of-s.ensures c.args.k c.can_lend.ensures c.requires.session_ready c.if-not-can_lend.true (omega (arith, c.requires.placed.onward, c.requires.placed.within)) c.ended.ensures
 
 pub lend_bytes-requires : goal.lend_bytes-requires
 lend_bytes-requires c =
@@ -16,7 +16,7 @@ lend_places-requires c =
     ((λ z. lendable-places c.shape_of-s.result.memory c.args.k.operands c.can_lend.ensures c.if-not-can_lend.false z), omega (arith, c.requires.session_ready.seated), c.requires.session_ready.roomy.places)
 
 pub call_turn-requires-clause-fronts : goal.call_turn-requires-clause-fronts
-call_turn-requires-clause-fronts c = lent-few c.args.code c.shape_of-s.result c.shape_of-s.ensures c.args.k c.requires.known_value.0 c.can_lend.ensures c.requires.session_ready c.lend_words-w.result.0 c.lend_words-w.result.1 c.lend_bytes.result c.lend_places.result c.lend_words-w.ensures c.lend_bytes.ensures c.if-not-can_lend.false c.lend_places.ensures.upper_bound
+call_turn-requires-clause-fronts c = lent-few c.args.code c.shape_of-s.result c.shape_of-s.ensures c.args.k c.can_lend.ensures c.requires.session_ready c.lend_words-w.result.0 c.lend_words-w.result.1 c.lend_bytes.result c.lend_places.result c.lend_words-w.ensures c.lend_bytes.ensures c.if-not-can_lend.false c.lend_places.ensures.upper_bound
 
 pub returns : goal.returns
-returns c = lent_goes c.args.code c.shape_of-s.result c.shape_of-s.ensures c.args.k c.requires.known_value.0 c.can_lend.ensures c.requires.session_ready c.lend_words-w.result.0 c.lend_words-w.result.1 c.lend_bytes.result c.lend_places.result c.lend_words-w.ensures c.lend_bytes.ensures c.if-not-can_lend.false c.lend_places.ensures.fronts refl c.call_turn.ensures
+returns c = lent_goes c.args.code c.shape_of-s.result c.shape_of-s.ensures c.args.k c.can_lend.ensures c.requires.session_ready c.lend_words-w.result.0 c.lend_words-w.result.1 c.lend_bytes.result c.lend_places.result c.lend_words-w.ensures c.lend_bytes.ensures c.if-not-can_lend.false c.lend_places.ensures.fronts refl c.call_turn.ensures

@@ -1,16 +1,15 @@
-use borrow.Author.Tests.{ne_eqb}
-use Rattle.text.proofs.PutsLaws.{puts_none}
+use Rattle.text.proofs.WritesLaws.{writes-none}
 use Rattle.script.specs.Lines.{field_text}
 use Rattle.script.proofs.lines.put_field.Goals as goal
 
-pub returns-in-0 : goal.returns-in-0
+pub returns-in-Absent : goal.returns-in-Absent
 unfolding field_text
-returns-in-0 c = rw c.in-0.is (puts_none _ _)
+returns-in-Absent c = rw c.in-Absent.is writes-none
 
-pub returns-in-1 : goal.returns-in-1
+pub returns-in-Decimal : goal.returns-in-Decimal
 unfolding field_text
-returns-in-1 c = rw c.in-1.is c.put_spaced_decimal.ensures
+returns-in-Decimal c = rw c.in-Decimal.is c.put_spaced_decimal.ensures
 
-pub returns-in_default : goal.returns-in_default
+pub returns-in-Hexadecimal : goal.returns-in-Hexadecimal
 unfolding field_text
-returns-in_default c = rw (ne_eqb c.args.form 0 c.in_default.in_default-own.rest.0.1, ne_eqb c.args.form 1 c.in_default.in_default-own.rest.1) c.put_spaced_hex.ensures
+returns-in-Hexadecimal c = rw c.in-Hexadecimal.is c.put_spaced_hex.ensures

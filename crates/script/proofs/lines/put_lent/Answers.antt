@@ -1,10 +1,10 @@
-use Rattle.text.proofs.PutsLaws.{puts_none}
+use Rattle.text.proofs.WritesLaws.{writes-none}
 use Rattle.script.specs.Lines.{lent_text}
 use Rattle.script.proofs.lines.put_lent.Goals as goal
 
 pub returns-in-Own : goal.returns-in-Own
 unfolding lent_text
-returns-in-Own c = rw c.in-Own.is (puts_none _ _)
+returns-in-Own c = rw c.in-Own.is writes-none
 
 pub returns-in-Buffer : goal.returns-in-Buffer
 unfolding lent_text

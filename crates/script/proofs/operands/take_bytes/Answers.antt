@@ -1,13 +1,16 @@
 use native.Mathlib.Omega.{arith}
 use Rattle.script.specs.Parse.{with_bytes}
-use Rattle.script.proofs.TakeLaws.{list_short, list-large, bytes-taken}
+use Rattle.script.proofs.TakeLaws.{counts, counts_inside, list_none, bytes-taken}
 use Rattle.script.proofs.operands.take_bytes.Goals as goal
 
-pub returns-then-input-at-lt8 : goal.returns-then-input-at-lt8
-returns-then-input-at-lt8 c = λ ns ws. list_short 1 with_bytes c.missing.ensures c.if-input-at-lt8.true
+pub returns-in_err-n : goal.returns-in_err-n
+returns-in_err-n c = λ ns ws. rw c.from_residual.ensures (list_none 1 with_bytes c.take_count.ensures c.in_err-n.was)
 
-pub returns-then-input-start : goal.returns-then-input-start
-returns-then-input-start c = λ ns ws. list-large 1 with_bytes c.missing-then-input-start.ensures (omega arith) c.read_little-n.ensures (omega arith)
+pub overflow_add-result : goal.overflow_add-result
+overflow_add-result c = let m = counts_inside 1 c.args.input.now c.args.t.at (counts 1 _ c.take_count.ensures c.in_ok-n.was) in omega (arith, m.0, m.1)
+
+pub overflow_add-result-2 : goal.overflow_add-result-2
+overflow_add-result-2 c = let m = counts_inside 1 c.args.input.now c.args.t.at (counts 1 _ c.take_count.ensures c.in_ok-n.was) in omega (arith, m.0, m.1)
 
 pub returns : goal.returns
-returns c = λ ns ws. bytes-taken (omega arith) c.read_little-n.ensures (omega arith)
+returns c = λ ns ws. bytes-taken c.requires (counts 1 _ c.take_count.ensures c.in_ok-n.was)

@@ -1,3 +1,4 @@
+use native.Mathlib.Omega.{arith}
 use borrow.Author.Tests.{ne_eqb}
 use Rattle.commands.specs.Rows.{field_at}
 use Rattle.script.specs.Parse.{parse_field}
@@ -34,4 +35,4 @@ returns-in-7 c = takes_as c.args.kind (λ p. rw c.in-7.is) (c.take_bytes.ensures
 
 pub returns-in_default : goal.returns-in_default
 unfolding field_at parse_field
-returns-in_default c = takes_as c.args.kind (λ p. rw (ne_eqb c.args.kind 1 c.in_default.in_default-own.rest.0.0.0.0.0.0.1, ne_eqb c.args.kind 2 c.in_default.in_default-own.rest.0.0.0.0.0.1, ne_eqb c.args.kind 3 c.in_default.in_default-own.rest.0.0.0.0.1, ne_eqb c.args.kind 4 c.in_default.in_default-own.rest.0.0.0.1, ne_eqb c.args.kind 5 c.in_default.in_default-own.rest.0.0.1, ne_eqb c.args.kind 6 c.in_default.in_default-own.rest.0.1, ne_eqb c.args.kind 7 c.in_default.in_default-own.rest.1)) (c.take_frames.ensures c.args.numbers.now)
+returns-in_default c = takes_as c.args.kind (λ p. rw (ne_eqb c.args.kind 1 (omega arith), ne_eqb c.args.kind 2 (omega arith), ne_eqb c.args.kind 3 (omega arith), ne_eqb c.args.kind 4 (omega arith), ne_eqb c.args.kind 5 (omega arith), ne_eqb c.args.kind 6 (omega arith), ne_eqb c.args.kind 7 (omega arith))) (c.take_frames.ensures c.args.numbers.now)

@@ -1,0 +1,15 @@
+use Rattle.heap.proofs.ReachLaws.{located_fits}
+use Rattle.collections_iterators.proofs.IteratorLaws.{iterator-found, iterator-missed, iterator-scalars-fit}
+use Rattle.collections_iterators.proofs.iterator_at.Goals as goal
+
+pub returns-in_err-i : goal.returns-in_err-i
+returns-in_err-i c = iterator-missed c.locate.ensures c.in_err-i.was c.from_residual.ensures.1
+
+pub read_header-requires : goal.read_header-requires
+read_header-requires c = located_fits c.args.view.now.good c.locate.ensures c.in_ok-i.was
+
+pub read_part-requires : goal.read_part-requires
+read_part-requires c = iterator-scalars-fit c.args.view.now.good c.locate.ensures c.in_ok-i.was
+
+pub returns : goal.returns
+returns c = iterator-found c.locate.ensures c.in_ok-i.was c.read_header.ensures c.read_part.ensures

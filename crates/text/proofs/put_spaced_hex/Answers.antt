@@ -1,5 +1,0 @@
-use Rattle.text.proofs.PutsLaws.{puts-append}
-use Rattle.text.proofs.put_spaced_hex.Goals as goal
-
-pub returns : goal.returns
-returns c = puts-append c.put_byte-a.ensures c.put_hex.ensures
