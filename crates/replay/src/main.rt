@@ -3,9 +3,9 @@
 #![tactic(auto)]
 
 ghost use Rattle.std.specs.Prelude.{◌≡◌, ◌≤◌, IfOk, length};
-ghost use Rattle.script.specs.Turns.{SessionReady, lend};
+ghost use Rattle.script.specs.Turns.{SessionReady, lent_in};
 
-use script::Session;
+use script::{Lent, Session};
 use std::io;
 use std::io::Read;
 
@@ -22,32 +22,13 @@ fn line_buffer() -> [u8; 1114279]
     [0; 1114279]
 }
 
-fn play(
-    rt: &impl Print,
-    mut session: Session,
-    slots: &mut [u64],
-    scalars: &mut [u64],
-    list: &mut [u64],
-    directory: &mut [u64],
-    cells: &mut [u64],
-    marks: &mut [u8],
-    order: &mut [u32],
-    table: &mut [u64],
-    roots: &mut [u64],
-    words: &mut [u64],
-    bytes: &mut [u8],
-    places: &mut [u64],
-    out: &mut [u8],
-    input: &[u8],
-) -> io::Result<()>
-    requires { SessionReady input.now (lend slots.old scalars.old list.old directory.old cells.old marks.old order.old table.old roots.old words.old bytes.old places.old out.old) session }
+fn play(rt: &impl Print, mut session: Session, lent: &mut Lent<'_>, input: &[u8]) -> io::Result<()>
+    requires { SessionReady input.now (lent_in lent.old) session }
 {
     // How far a run goes is known when it is done.
     while session.at < input.len() {
-        session.run(
-            slots, scalars, list, directory, cells, marks, order, table, roots, words, bytes,
-            places, out, input,
-        );
+        session.run(lent, input);
+        let out: &[u8] = &mut *lent.out;
         rt.write_all(&out[..session.end])?;
     }
     Ok(())
@@ -67,30 +48,29 @@ fn run(rt: &impl Print, input: &[u8]) -> io::Result<()> {
     let mut bytes = script_buffer();
     let mut places = [0u64; 65536];
     let mut out = line_buffer();
-    match script::start(
+    let started = script::start(
         &slots, &scalars, &list, &directory, &cells, &mut marks, &mut order, &mut table, &roots,
         &words, &bytes, &places, &out, input,
-    ) {
-        Err(_) => Ok(()),
-        Ok(session) => play(
-            rt,
-            session,
-            &mut slots,
-            &mut scalars,
-            &mut list,
-            &mut directory,
-            &mut cells,
-            &mut marks,
-            &mut order,
-            &mut table,
-            &mut roots,
-            &mut words,
-            &mut bytes,
-            &mut places,
-            &mut out,
-            input,
-        ),
-    }
+    );
+    let Ok(session) = started else {
+        return Ok(());
+    };
+    let mut lent = Lent {
+        slots: &mut slots,
+        scalars: &mut scalars,
+        list: &mut list,
+        directory: &mut directory,
+        cells: &mut cells,
+        marks: &mut marks,
+        order: &mut order,
+        table: &mut table,
+        roots: &mut roots,
+        words: &mut words,
+        bytes: &mut bytes,
+        places: &mut places,
+        out: &mut out,
+    };
+    play(rt, session, &mut lent, input)
 }
 
 // The layout 00 stands before the script.

@@ -4,11 +4,10 @@ use Prim.Native.Nat.{ℕ, ◌≤◌, ◌<◌}
 use mathlib.Core.Path.{◌≡◌, refl, sym, ap, subst, ◌∙◌}
 use mathlib.Core.Logic.{◌≢◌}
 use mathlib.Core.Bool.{Bool, true, false}
-use mathlib.Core.List.{List, [], ◌∷◌, ◌++◌}
+use mathlib.Core.List.{List, [], ◌∷◌}
 use native.Mathlib.Omega.{arith}
 use lib.ListN.{length, take, drop}
-use lib.Seq.{drop-length, take_at}
-use Rattle.layout.specs.Layout.{Layout}
+use lib.Seq.{drop-length}
 use Rattle.layout.specs.Sections.{layout_of}
 use Rattle.history.proofs.Sizes.{step-size}
 use Rattle.model.specs.Calls.{Call}
@@ -32,15 +31,10 @@ use Rattle.commands.proofs.ActLaws as Acts
 use Rattle.script.specs.declared.Session.{Session}
 use Rattle.script.specs.Lines.{adjusted, buffer_text, lent_text, line_text}
 use Rattle.script.specs.Replay.{Play, acted, called, ended}
-use Rattle.script.specs.Turns.{Buffers, EndLine, Goes, Roomy, SessionReady, layout_in, lists_in, play_of, seated_in}
+use Rattle.script.specs.Turns.{Buffers, EndLine, Goes, Kept, Roomy, SessionReady, layout_in, lists_in, play_of, seated_in}
 use Rattle.script.proofs.ActLaws.{silent}
+use Rattle.script.proofs.SessionLaws.{with}
 use Rattle.commands.specs.declared.Memory.{Memory}
-
--- what is lent are the fronts of the cells, the bytes and the places
-pub front_performed : {l : Layout} {e : Memory} {b : State} {bytes places : List ℕ} {x : Act} {p : Option Shown} {h : Heap} {s v f d cs bs ps marks order layout table : List ℕ} (room : ℕ) (rest : List ℕ) (m : ℕ) (more : List ℕ) (n : ℕ) (others : List ℕ) → length cs ≡ room → length bs ≡ m → length ps ≡ n →
-    CommandedBy l e b bytes places x p (state h s v f d cs) bs ps → Ready (state h s v f d cs) marks order layout table →
-    CommandedBy l e b bytes places x p (state h s v f d (take room (cs ++ rest))) (take m (bs ++ more)) (take n (ps ++ others)) × Ready (state h s v f d (take room (cs ++ rest))) marks order layout table
-front_performed {cs = cs} {bs = bs} {ps = ps} room rest m more n others i j k c r = rw (take_at cs rest room i, take_at bs more m j, take_at ps others n k) (c, r)
 
 -- ---- the line
 
@@ -89,40 +83,6 @@ unfolding run
 run-size m [] = refl
 run-size m (k ∷ ks) = run-size (step m k).next ks ∙ step-size m k
 
--- the buffers that a command can change
-abbrev pub changed : Buffers → List ℕ → List ℕ → List ℕ → List ℕ → List ℕ → List ℕ → List ℕ → List ℕ → List ℕ → List ℕ → Buffers
-changed u slots scalars list directory cells marks order bytes places out = record {
-  slots = slots;
-  scalars = scalars;
-  list = list;
-  directory = directory;
-  cells = cells;
-  marks = marks;
-  order = order;
-  table = u.table;
-  roots = u.roots;
-  words = u.words;
-  bytes = bytes;
-  places = places;
-  out = out;
-}
-
--- they keep their lengths
-pub record Kept (u v : Buffers) : Type 0 where
-  pub slots : length v.slots ≡ length u.slots
-  pub scalars : length v.scalars ≡ length u.scalars
-  pub list : length v.list ≡ length u.list
-  pub directory : length v.directory ≡ length u.directory
-  pub cells : length v.cells ≡ length u.cells
-  pub marks : length v.marks ≡ length u.marks
-  pub order : length v.order ≡ length u.order
-  pub table : length v.table ≡ length u.table
-  pub roots : length v.roots ≡ length u.roots
-  pub words : length v.words ≡ length u.words
-  pub bytes : length v.bytes ≡ length u.bytes
-  pub places : length v.places ≡ length u.places
-  pub out : length v.out ≡ length u.out
-
 pub kept-roomy : {input : List ℕ} {u v : Buffers} → Roomy input u → Kept u v → Roomy input v
 kept-roomy g k = record {
   slots = omega (arith, g.slots, k.slots);
@@ -139,6 +99,10 @@ kept-roomy g k = record {
   places = omega (arith, g.places, k.places);
   out = omega (arith, g.out, k.out);
 }
+
+-- another text is written behind
+pub kept_out : {u v : Buffers} {out : List ℕ} → Kept u v → length out ≡ length v.out → Kept u (with v v.roots v.words v.bytes v.places out)
+kept_out k e = record { slots = k.slots; scalars = k.scalars; list = k.list; directory = k.directory; cells = k.cells; marks = k.marks; order = k.order; table = k.table; roots = k.roots; words = k.words; bytes = k.bytes; places = k.places; out = e ∙ k.out }
 
 abbrev play : Model → List ℕ → Play
 play m rs = record { heap = m; roots = rs }

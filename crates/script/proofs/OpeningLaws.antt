@@ -29,7 +29,7 @@ use Rattle.commands.specs.Table.{opening_in}
 use Rattle.script.specs.declared.Session.{Session}
 use Rattle.script.specs.declared.NotStarted.TheVariants as Not
 use Rattle.script.specs.Replay.{opened_by, seatable}
-use Rattle.script.specs.Turns.{Buffers, EndLine, Goes, LargeLine, Roomy, SessionReady, Starts, first_opening, first_session, heap_room, large_opening, moved_to, opens_first, play_of, refused_opening, roomy, script_room, started_by, started_is}
+use Rattle.script.specs.Turns.{Buffers, EndLine, Goes, LargeLine, Roomy, SessionReady, Starts, first_opening, first_session, heap_room, large_opening, moved_to, opens_first, opens_on, play_of, refused_opening, roomy, script_room, started_by, started_is}
 use Rattle.script.proofs.SessionLaws.{ended_goes, kept_goes, with}
 
 and-true : (b : Bool) → b && true ≡ b
@@ -142,24 +142,6 @@ large_goes : {input : List ℕ} {u : Buffers} {p r : Session} {out : List ℕ} (
 unfolding opened_by model_of
 large_goes {input} {u} {p} {r} o x next g l i s (refused_opening e z t) = rw e (kept_goes _ next r.end g refl refl l i refl refl refl z t)
 large_goes {input} {u} {p} {r} o x next g l i s (large_opening m e k) = rw (e, s) (ended_goes g (omega arith) refl refl refl k)
-
--- the buffers with another table, marks, order and text
-abbrev pub opens_on : Buffers → List ℕ → List ℕ → List ℕ → List ℕ → Buffers
-opens_on u table marks order out = record {
-  slots = u.slots;
-  scalars = u.scalars;
-  list = u.list;
-  directory = u.directory;
-  cells = u.cells;
-  marks = marks;
-  order = order;
-  table = table;
-  roots = u.roots;
-  words = u.words;
-  bytes = u.bytes;
-  places = u.places;
-  out = out;
-}
 
 pub turned-large : {input : List ℕ} {u : Buffers} {p r : Session} {out : List ℕ} (o : Operands) (layout : List ℕ) (next : ℕ) {b : Bool} → SessionReady input u p → p.at < next → next ≤ length input → b ≡ seatable (opening_in o []) → b ≡ false → LargeLine p (open_heap (opening_in o layout)) next (length input) u.out out r →
     Goes input (opened_by (play_of input u p) (opening_in o layout) (drop next input) (open_heap (opening_in o layout))) u p (opens_on u u.table u.marks u.order out) r

@@ -6,6 +6,7 @@ use Rattle.model.specs.Callsheet.{digits, printed, sheet_opening}
 use Rattle.model.specs.Model.{Model}
 use Rattle.model.specs.Terms.{is_some}
 use Rattle.model.specs.Opening.{Opening, open_heap}
+use Rattle.heap.specs.declared.Heap.{Heap}
 use Rattle.heap.specs.State.{State, model_of, state}
 use Rattle.heap.specs.Good.{Ready}
 use Rattle.heap.specs.Opens.{new_heap, opening_of}
@@ -13,6 +14,7 @@ use Rattle.text.specs.Puts.{Puts}
 use Rattle.commands.specs.Rows.{Lists}
 use Rattle.commands.specs.Promise.{lists}
 use Rattle.script.specs.declared.Command.{Command}
+use Rattle.script.specs.declared.Lent.{Lent}
 use Rattle.script.specs.declared.Session.{Session}
 use Rattle.script.specs.declared.NotStarted.{NotStarted}
 use Rattle.script.specs.declared.NotStarted.TheVariants as Not
@@ -53,6 +55,60 @@ lend slots scalars list directory cells marks order table roots words bytes plac
   out = out;
 }
 
+-- the same of a struct that lends them
+abbrev pub lent_in : Lent → Buffers
+lent_in l = lend l.slots.now l.scalars.now l.list.now l.directory.now l.cells.now l.marks.now l.order.now l.table.now l.roots.now l.words.now l.bytes.now l.places.now l.out.now
+
+-- l and m lend the same memory, so that its owner gets back what m holds
+pub record SameLists (l m : Lent) : Type 0 where
+  pub slots : m.slots.ghost_name ≡ l.slots.ghost_name
+  pub scalars : m.scalars.ghost_name ≡ l.scalars.ghost_name
+  pub list : m.list.ghost_name ≡ l.list.ghost_name
+  pub directory : m.directory.ghost_name ≡ l.directory.ghost_name
+  pub cells : m.cells.ghost_name ≡ l.cells.ghost_name
+  pub marks : m.marks.ghost_name ≡ l.marks.ghost_name
+  pub order : m.order.ghost_name ≡ l.order.ghost_name
+  pub table : m.table.ghost_name ≡ l.table.ghost_name
+  pub roots : m.roots.ghost_name ≡ l.roots.ghost_name
+  pub words : m.words.ghost_name ≡ l.words.ghost_name
+  pub bytes : m.bytes.ghost_name ≡ l.bytes.ghost_name
+  pub places : m.places.ghost_name ≡ l.places.ghost_name
+  pub out : m.out.ghost_name ≡ l.out.ghost_name
+
+-- the lists keep their lengths
+pub record Kept (u v : Buffers) : Type 0 where
+  pub slots : length v.slots ≡ length u.slots
+  pub scalars : length v.scalars ≡ length u.scalars
+  pub list : length v.list ≡ length u.list
+  pub directory : length v.directory ≡ length u.directory
+  pub cells : length v.cells ≡ length u.cells
+  pub marks : length v.marks ≡ length u.marks
+  pub order : length v.order ≡ length u.order
+  pub table : length v.table ≡ length u.table
+  pub roots : length v.roots ≡ length u.roots
+  pub words : length v.words ≡ length u.words
+  pub bytes : length v.bytes ≡ length u.bytes
+  pub places : length v.places ≡ length u.places
+  pub out : length v.out ≡ length u.out
+
+-- the buffers with another table, marks, order and text
+abbrev pub opens_on : Buffers → List ℕ → List ℕ → List ℕ → List ℕ → Buffers
+opens_on u table marks order out = record {
+  slots = u.slots;
+  scalars = u.scalars;
+  list = u.list;
+  directory = u.directory;
+  cells = u.cells;
+  marks = marks;
+  order = order;
+  table = table;
+  roots = u.roots;
+  words = u.words;
+  bytes = u.bytes;
+  places = u.places;
+  out = out;
+}
+
 -- room for 1,024 slots, 65,536 cells, 64 roots, lists of 65,536 places, buffers of 524,288 bytes, the longest line; and for the words and bytes of the input
 pub record Roomy (input : List ℕ) (u : Buffers) : Type 0 where
   pub slots : 8192 ≤ length u.slots
@@ -86,8 +142,11 @@ roomy input u =
 -- ---- between commands
 
 -- the heap over the lent buffers, of the cells the first alone
+abbrev pub heap_in : Heap → ℕ → Buffers → State
+heap_in h room u = state h u.slots u.scalars u.list u.directory (take room u.cells)
+
 abbrev pub seated_in : Buffers → Session → State
-seated_in u p = state p.heap u.slots u.scalars u.list u.directory (take p.room u.cells)
+seated_in u p = heap_in p.heap p.room u
 
 abbrev pub layout_in : List ℕ → Session → List ℕ
 layout_in input p = take (p.to - p.from) (drop p.from input)

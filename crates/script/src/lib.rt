@@ -4,21 +4,19 @@
 pub mod lines;
 pub mod operands;
 
-ghost use Rattle.std.specs.Prelude.{◌≡◌, true, List, [], ℕ, ◌+◌, ◌-◌, ◌*◌, ◌≤◌, ◌<◌, min, length, replicate, take, drop};
+ghost use Rattle.std.specs.Prelude.{◌≡◌, List, [], ℕ, ◌+◌, ◌*◌, ◌≤◌, ◌<◌, length, take, drop};
 ghost use Rattle.std.proofs.Math.Option.{some};
 ghost use Rattle.model.specs.Opening.{open_heap};
 ghost use Rattle.model.specs.Terms.{is_some};
 ghost use Rattle.layout.specs.Sections.{layout_of};
-ghost use Rattle.heap.specs.State.{state};
 ghost use Rattle.heap.specs.Good.{Ready};
-ghost use Rattle.heap.specs.Opens.{opening_of};
 ghost use Rattle.commands.specs.declared.Memory.TheVariants as M;
 ghost use Rattle.commands.specs.Table.{act_of, memory_of, opening_in, shape_of};
-ghost use Rattle.commands.specs.Promise.{CommandedBy, lists};
+ghost use Rattle.commands.specs.Promise.{CommandedBy};
 ghost use Rattle.script.specs.Reads.{Placed, called_as};
 ghost use Rattle.script.specs.Parse.{Called};
 ghost use Rattle.script.specs.Replay.{Play, acted, bytes_for, frames_for, lendable, numbered, opened_by, places_for, seatable, turn_by, words_for};
-ghost use Rattle.script.specs.Turns.{EndLine, Fronts, Goes, LargeLine, LendsWords, Plays, RootLine, SessionReady, Starts, Turns, heap_room, lend, lists_in, own_bytes, play_of, roomy, script_room};
+ghost use Rattle.script.specs.Turns.{EndLine, Fronts, Goes, Kept, LargeLine, LendsWords, Plays, RootLine, SameLists, SessionReady, Starts, Turns, heap_in, heap_room, lend, lent_in, lists_in, opens_on, own_bytes, play_of, script_room};
 
 use answers::Shown;
 use commands::{Memory, Operands, Shape};
@@ -38,6 +36,25 @@ const BYTES: u64 = 524288;
 const ROOTS: usize = 64;
 
 const LINE: usize = 1114279;
+
+// The lists that a script's session is lent, and the text that it writes. A list that is only read
+// is taken from it by `&mut *lent.list`, since the proof then knows that it stays as it was.
+#[derive(Drop)]
+pub struct Lent<'a> {
+    pub slots: &'a mut [u64],
+    pub scalars: &'a mut [u64],
+    pub list: &'a mut [u64],
+    pub directory: &'a mut [u64],
+    pub cells: &'a mut [u64],
+    pub marks: &'a mut [u8],
+    pub order: &'a mut [u32],
+    pub table: &'a mut [u64],
+    pub roots: &'a mut [u64],
+    pub words: &'a mut [u64],
+    pub bytes: &'a mut [u8],
+    pub places: &'a mut [u64],
+    pub out: &'a mut [u8],
+}
 
 // Between commands: the heap's record, how many roots there are, how many cells are lent, where the
 // layout lies in the input, where the next command stands, and where the text ends.
@@ -245,41 +262,39 @@ fn perform_in(
     code: u64,
     o: Operands,
     l: Lending,
-    slots: &mut [u64],
-    scalars: &mut [u64],
-    list: &mut [u64],
-    directory: &mut [u64],
-    cells: &mut [u64],
-    marks: &mut [u8],
-    order: &mut [u32],
-    table: &[u64],
-    words: &[u64],
-    bytes: &mut [u8],
-    places: &mut [u64],
+    lent: &mut Lent<'_>,
 ) -> Option<Shown>
-    requires ready { Ready (state heap.old slots.old scalars.old list.old directory.old (take room cells.old)) marks.old order.old layout.now table.now }
-    requires room_in_bounds { room ≤ length cells.old }
-    requires fronts { (l.words ≤ l.end) × (l.end ≤ length words.now) × (l.bytes ≤ length bytes.old) × (l.places ≤ length places.old) }
-    ensures commanded_by { CommandedBy (layout_of layout.now) (memory_of code) (state heap.old slots.old scalars.old list.old directory.old (take room cells.old)) (take l.bytes bytes.old) (take l.places places.old) (act_of code o (lists (take l.words words.now) (take (l.end - l.words) (drop l.words words.now)) (take l.bytes bytes.old) (take l.places places.old))) result (state heap.new slots.new scalars.new list.new directory.new (take room cells.new)) (take l.bytes bytes.new) (take l.places places.new) }
-    ensures ready_2 { Ready (state heap.new slots.new scalars.new list.new directory.new (take room cells.new)) marks.new order.new layout.now table.now }
+    requires ready { Ready (heap_in heap.old room (lent_in lent.old)) lent.old.marks.now lent.old.order.now layout.now lent.old.table.now }
+    requires room_in_bounds { room ≤ length lent.old.cells.now }
+    requires fronts { (l.words ≤ l.end) × (l.end ≤ length lent.old.words.now) × (l.bytes ≤ length lent.old.bytes.now) × (l.places ≤ length lent.old.places.now) }
+    ensures commanded_by { CommandedBy (layout_of layout.now) (memory_of code) (heap_in heap.old room (lent_in lent.old)) (take l.bytes lent.old.bytes.now) (take l.places lent.old.places.now) (act_of code o (lists_in (lent_in lent.old) l.words l.end l.bytes l.places)) result (heap_in heap.new room (lent_in lent.new)) (take l.bytes lent.new.bytes.now) (take l.places lent.new.places.now) }
+    ensures ready_2 { Ready (heap_in heap.new room (lent_in lent.new)) lent.new.marks.now lent.new.order.now layout.now lent.new.table.now }
+    ensures kept { Kept (lent_in lent.old) (lent_in lent.new) }
+    ensures unchanged { (lent.new.table.now ≡ lent.old.table.now) × (lent.new.roots.now ≡ lent.old.roots.now) × (lent.new.words.now ≡ lent.old.words.now) × (lent.new.out.now ≡ lent.old.out.now) }
+    ensures same_lists { SameLists lent.old lent.new }
 {
+    let cells = &mut lent.cells[..room];
+    let table: &[u64] = &mut *lent.table;
+    let words: &[u64] = &mut *lent.words;
+    let bytes = &mut lent.bytes[..l.bytes];
+    let places = &mut lent.places[..l.places];
     commands::perform(
         heap,
-        slots,
-        scalars,
-        list,
-        directory,
-        &mut cells[..room],
-        marks,
-        order,
+        lent.slots,
+        lent.scalars,
+        lent.list,
+        lent.directory,
+        cells,
+        lent.marks,
+        lent.order,
         layout,
         table,
         code,
         o,
         &words[..l.words],
         &words[l.words..l.end],
-        &mut bytes[..l.bytes],
-        &mut places[..l.places],
+        bytes,
+        places,
     )
 }
 
@@ -331,42 +346,33 @@ impl Session {
     }
 
     // 00: a new heap, or the earlier one stays.
-    fn open_turn(
-        &mut self,
-        k: Command,
-        slots: &[u64],
-        scalars: &[u64],
-        list: &[u64],
-        directory: &[u64],
-        cells: &[u64],
-        marks: &mut [u8],
-        order: &mut [u32],
-        table: &mut [u64],
-        roots: &[u64],
-        words: &[u64],
-        bytes: &[u8],
-        places: &[u64],
-        out: &mut [u8],
-        input: &[u8],
-    )
-        requires session_ready { SessionReady input.now (lend slots.now scalars.now list.now directory.now cells.now marks.old order.old table.old roots.now words.now bytes.now places.now out.old) self.old }
-        requires placed { Placed input.now self.old.at (length words.now) k }
-        requires end_in_bounds { self.old.end + 62 ≤ length out.old }
-        ensures { Goes input.now (opened_by (play_of input.now (lend slots.now scalars.now list.now directory.now cells.now marks.old order.old table.old roots.now words.now bytes.now places.now out.old) self.old) (opening_in k.operands (own_bytes input.now k)) (drop k.next input.now) (open_heap (opening_in k.operands (own_bytes input.now k)))) (lend slots.now scalars.now list.now directory.now cells.now marks.old order.old table.old roots.now words.now bytes.now places.now out.old) self.old (lend slots.now scalars.now list.now directory.now cells.now marks.new order.new table.new roots.now words.now bytes.now places.now out.new) self.new }
+    fn open_turn(&mut self, k: Command, lent: &mut Lent<'_>, input: &[u8])
+        requires session_ready { SessionReady input.now (lent_in lent.old) self.old }
+        requires placed { Placed input.now self.old.at (length lent.old.words.now) k }
+        requires end_in_bounds { self.old.end + 62 ≤ length lent.old.out.now }
+        ensures goes { Goes input.now (opened_by (play_of input.now (lent_in lent.old) self.old) (opening_in k.operands (own_bytes input.now k)) (drop k.next input.now) (open_heap (opening_in k.operands (own_bytes input.now k)))) (lent_in lent.old) self.old (lent_in lent.new) self.new }
+        ensures kept { Kept (lent_in lent.old) (lent_in lent.new) }
+        ensures unchanged { lent_in lent.new ≡ opens_on (lent_in lent.old) lent.new.table.now lent.new.marks.now lent.new.order.now lent.new.out.now }
+        ensures same_lists { SameLists lent.old lent.new }
     {
         let o = k.operands;
         if !is_seatable(o) {
-            return self.large_opening(k, input, out);
+            return self.large_opening(k, input, lent.out);
         }
         let room = o.b as usize;
+        let slots: &[u64] = &mut *lent.slots;
+        let scalars: &[u64] = &mut *lent.scalars;
+        let list: &[u64] = &mut *lent.list;
+        let directory: &[u64] = &mut *lent.directory;
+        let cells: &[u64] = &mut *lent.cells;
         let opened = heap::open(
             o.a,
             o.c,
             weights_in(o),
             &input[k.from..k.to],
-            table,
-            marks,
-            order,
+            lent.table,
+            lent.marks,
+            lent.order,
             slots,
             scalars,
             list,
@@ -374,7 +380,10 @@ impl Session {
             &cells[..room],
         );
         self.at = k.next;
-        let mut writer = Writer { out, end: self.end };
+        let mut writer = Writer {
+            out: lent.out,
+            end: self.end,
+        };
         let Ok(heap) = opened else {
             writer.put_line(0x00, 10, 0, self.heap.account.used);
             self.end = writer.end;
@@ -397,55 +406,32 @@ impl Session {
         o: Operands,
         l: Lending,
         next: usize,
-        slots: &mut [u64],
-        scalars: &mut [u64],
-        list: &mut [u64],
-        directory: &mut [u64],
-        cells: &mut [u64],
-        marks: &mut [u8],
-        order: &mut [u32],
-        table: &[u64],
-        roots: &[u64],
-        words: &[u64],
-        bytes: &mut [u8],
-        places: &mut [u64],
-        out: &mut [u8],
+        lent: &mut Lent<'_>,
         input: &[u8],
     )
-        requires session_ready { SessionReady input.now (lend slots.old scalars.old list.old directory.old cells.old marks.old order.old table.now roots.now words.now bytes.old places.old out.old) self.old }
+        requires session_ready { SessionReady input.now (lent_in lent.old) self.old }
         requires s_value { (s ≡ shape_of code) × (code ≡ 0x00 → ⊥) × (code ≡ 0x0B → ⊥) }
-        requires fronts { (l.words ≤ l.end) × (l.end ≤ length words.now) × (l.bytes ≤ length bytes.old) × (l.places ≤ 65536) × (s.memory ≡ M.Buffer → l.bytes ≤ 524288) }
-        requires at_lt_next { (self.old.at < next) × (next ≤ length input.now) × (self.old.end + 1114279 ≤ length out.old) }
-        ensures { Goes input.now (acted (play_of input.now (lend slots.old scalars.old list.old directory.old cells.old marks.old order.old table.now roots.now words.now bytes.old places.old out.old) self.old) code o (lists_in (lend slots.old scalars.old list.old directory.old cells.old marks.old order.old table.now roots.now words.now bytes.old places.old out.old) l.words l.end l.bytes l.places) (drop next input.now) (act_of code o (lists_in (lend slots.old scalars.old list.old directory.old cells.old marks.old order.old table.now roots.now words.now bytes.old places.old out.old) l.words l.end l.bytes l.places))) (lend slots.old scalars.old list.old directory.old cells.old marks.old order.old table.now roots.now words.now bytes.old places.old out.old) self.old (lend slots.new scalars.new list.new directory.new cells.new marks.new order.new table.now roots.now words.now bytes.new places.new out.new) self.new }
+        requires fronts { (l.words ≤ l.end) × (l.end ≤ length lent.old.words.now) × (l.bytes ≤ length lent.old.bytes.now) × (l.places ≤ 65536) × (s.memory ≡ M.Buffer → l.bytes ≤ 524288) }
+        requires at_lt_next { (self.old.at < next) × (next ≤ length input.now) × (self.old.end + 1114279 ≤ length lent.old.out.now) }
+        ensures goes { Goes input.now (acted (play_of input.now (lent_in lent.old) self.old) code o (lists_in (lent_in lent.old) l.words l.end l.bytes l.places) (drop next input.now) (act_of code o (lists_in (lent_in lent.old) l.words l.end l.bytes l.places))) (lent_in lent.old) self.old (lent_in lent.new) self.new }
+        ensures kept { Kept (lent_in lent.old) (lent_in lent.new) }
+        ensures unchanged { (lent.new.table.now ≡ lent.old.table.now) × (lent.new.roots.now ≡ lent.old.roots.now) × (lent.new.words.now ≡ lent.old.words.now) }
+        ensures same_lists { SameLists lent.old lent.new }
     {
         let layout = &input[self.from..self.to];
         let room = self.room;
-        let performed = perform_in(
-            &mut self.heap,
-            room,
-            layout,
-            code,
-            o,
-            l,
-            slots,
-            scalars,
-            list,
-            directory,
-            cells,
-            marks,
-            order,
-            table,
-            words,
-            bytes,
-            places,
-        );
+        let performed = perform_in(&mut self.heap, room, layout, code, o, l, lent);
         let Some(shown) = performed else {
-            return self.ended(input.len(), out);
+            return self.ended(input.len(), lent.out);
         };
         let used = self.heap.account.used;
-        let places = &places[..l.places];
-        let bytes = &bytes[..shown_bytes(s.memory, l.bytes)];
-        let mut writer = Writer { out, end: self.end };
+        let places: &[u64] = &mut *lent.places;
+        let bytes: &[u8] = &mut *lent.bytes;
+        let shown_to = shown_bytes(s.memory, l.bytes);
+        let mut writer = Writer {
+            out: lent.out,
+            end: self.end,
+        };
         lines::put_shown(
             &mut writer,
             code,
@@ -454,139 +440,71 @@ impl Session {
             o,
             shown,
             used,
-            places,
-            bytes,
+            &places[..l.places],
+            &bytes[..shown_to],
         );
         self.end = writer.end;
         self.at = next;
     }
 
     // A command that makes calls, with the memory that is lent to it.
-    fn lent_turn(
-        &mut self,
-        code: u64,
-        k: Command,
-        slots: &mut [u64],
-        scalars: &mut [u64],
-        list: &mut [u64],
-        directory: &mut [u64],
-        cells: &mut [u64],
-        marks: &mut [u8],
-        order: &mut [u32],
-        table: &[u64],
-        roots: &[u64],
-        words: &mut [u64],
-        bytes: &mut [u8],
-        places: &mut [u64],
-        out: &mut [u8],
-        input: &[u8],
-    )
-        requires session_ready { SessionReady input.now (lend slots.old scalars.old list.old directory.old cells.old marks.old order.old table.now roots.now words.old bytes.old places.old out.old) self.old }
-        requires placed { Placed input.now self.old.at (length words.old) k }
-        requires code_value { (code ≡ 0x00 → ⊥) × (code ≡ 0x0B → ⊥) × (self.old.end + 1114279 ≤ length out.old) }
-        ensures { Goes input.now (turn_by (play_of input.now (lend slots.old scalars.old list.old directory.old cells.old marks.old order.old table.now roots.now words.old bytes.old places.old out.old) self.old) code (some (called_as input.now words.old k))) (lend slots.old scalars.old list.old directory.old cells.old marks.old order.old table.now roots.now words.old bytes.old places.old out.old) self.old (lend slots.new scalars.new list.new directory.new cells.new marks.new order.new table.now roots.now words.new bytes.new places.new out.new) self.new }
+    fn lent_turn(&mut self, code: u64, k: Command, lent: &mut Lent<'_>, input: &[u8])
+        requires session_ready { SessionReady input.now (lent_in lent.old) self.old }
+        requires placed { Placed input.now self.old.at (length lent.old.words.now) k }
+        requires code_value { (code ≡ 0x00 → ⊥) × (code ≡ 0x0B → ⊥) × (self.old.end + 1114279 ≤ length lent.old.out.now) }
+        ensures goes { Goes input.now (turn_by (play_of input.now (lent_in lent.old) self.old) code (some (called_as input.now lent.old.words.now k))) (lent_in lent.old) self.old (lent_in lent.new) self.new }
+        ensures kept { Kept (lent_in lent.old) (lent_in lent.new) }
+        ensures unchanged { (lent.new.table.now ≡ lent.old.table.now) × (lent.new.roots.now ≡ lent.old.roots.now) }
+        ensures same_lists { SameLists lent.old lent.new }
     {
         let s = commands::shape_of(code);
         let o = k.operands;
         if !can_lend(s.memory, o) {
-            return self.ended(input.len(), out);
+            return self.ended(input.len(), lent.out);
         }
-        let (w, end) = lend_words(s.memory, k, &roots[..self.count], words);
+        let roots: &[u64] = &mut *lent.roots;
+        let (w, end) = lend_words(s.memory, k, &roots[..self.count], lent.words);
         let l = Lending {
             words: w,
             end,
-            bytes: lend_bytes(s.memory, o, &input[k.from..k.to], bytes),
-            places: lend_places(s.memory, o, self.heap.size, places),
+            bytes: lend_bytes(s.memory, o, &input[k.from..k.to], lent.bytes),
+            places: lend_places(s.memory, o, self.heap.size, lent.places),
         };
-        self.call_turn(
-            code, s, o, l, k.next, slots, scalars, list, directory, cells, marks, order, table,
-            roots, words, bytes, places, out, input,
-        );
+        self.call_turn(code, s, o, l, k.next, lent, input);
     }
 
     // The command at the session's place, and its line.
-    fn turn(
-        &mut self,
-        slots: &mut [u64],
-        scalars: &mut [u64],
-        list: &mut [u64],
-        directory: &mut [u64],
-        cells: &mut [u64],
-        marks: &mut [u8],
-        order: &mut [u32],
-        table: &mut [u64],
-        roots: &mut [u64],
-        words: &mut [u64],
-        bytes: &mut [u8],
-        places: &mut [u64],
-        out: &mut [u8],
-        input: &[u8],
-    )
-        requires session_ready { SessionReady input.now (lend slots.old scalars.old list.old directory.old cells.old marks.old order.old table.old roots.old words.old bytes.old places.old out.old) self.old }
-        requires at_in_bounds { (self.old.at < length input.now) × (self.old.end + 1114279 ≤ length out.old) }
-        ensures { Turns input.now (lend slots.old scalars.old list.old directory.old cells.old marks.old order.old table.old roots.old words.old bytes.old places.old out.old) self.old (lend slots.new scalars.new list.new directory.new cells.new marks.new order.new table.new roots.new words.new bytes.new places.new out.new) self.new }
+    fn turn(&mut self, lent: &mut Lent<'_>, input: &[u8])
+        requires session_ready { SessionReady input.now (lent_in lent.old) self.old }
+        requires at_in_bounds { (self.old.at < length input.now) × (self.old.end + 1114279 ≤ length lent.old.out.now) }
+        ensures turns { Turns input.now (lent_in lent.old) self.old (lent_in lent.new) self.new }
+        ensures kept { Kept (lent_in lent.old) (lent_in lent.new) }
+        ensures same_lists { SameLists lent.old lent.new }
     {
-        let Some(k) = operands::read_call(input, self.at, words) else {
-            return self.ended(input.len(), out);
+        let Some(k) = operands::read_call(input, self.at, lent.words) else {
+            return self.ended(input.len(), lent.out);
         };
         match input[self.at] {
-            0x00 => self.open_turn(
-                k, slots, scalars, list, directory, cells, marks, order, table, roots, words,
-                bytes, places, out, input,
-            ),
-            0x0B => self.root_turn(k.operands.a, k.next, roots, out),
-            code => self.lent_turn(
-                code as u64,
-                k,
-                slots,
-                scalars,
-                list,
-                directory,
-                cells,
-                marks,
-                order,
-                table,
-                roots,
-                words,
-                bytes,
-                places,
-                out,
-                input,
-            ),
+            0x00 => self.open_turn(k, lent, input),
+            0x0B => self.root_turn(k.operands.a, k.next, lent.roots, lent.out),
+            code => self.lent_turn(code as u64, k, lent, input),
         }
     }
 
     // Commands from the session's place on, as long as the buffer has room for the longest line.
     // Their text stands in the buffer's front; an empty one ends the script.
-    pub fn run(
-        &mut self,
-        slots: &mut [u64],
-        scalars: &mut [u64],
-        list: &mut [u64],
-        directory: &mut [u64],
-        cells: &mut [u64],
-        marks: &mut [u8],
-        order: &mut [u32],
-        table: &mut [u64],
-        roots: &mut [u64],
-        words: &mut [u64],
-        bytes: &mut [u8],
-        places: &mut [u64],
-        out: &mut [u8],
-        input: &[u8],
-    )
-        requires { SessionReady input.now (lend slots.old scalars.old list.old directory.old cells.old marks.old order.old table.old roots.old words.old bytes.old places.old out.old) self.old }
-        ensures { Plays input.now (lend slots.old scalars.old list.old directory.old cells.old marks.old order.old table.old roots.old words.old bytes.old places.old out.old) self.old (lend slots.new scalars.new list.new directory.new cells.new marks.new order.new table.new roots.new words.new bytes.new places.new out.new) self.new }
+    pub fn run(&mut self, lent: &mut Lent<'_>, input: &[u8])
+        requires { SessionReady input.now (lent_in lent.old) self.old }
+        ensures plays { Plays input.now (lent_in lent.old) self.old (lent_in lent.new) self.new }
+        ensures kept { Kept (lent_in lent.old) (lent_in lent.new) }
+        ensures same_lists { SameLists lent.old lent.new }
     {
         self.end = 0;
         while self.at < input.len() {
-            if out.len() - self.end < LINE {
+            if lent.out.len() - self.end < LINE {
                 return;
             }
-            self.turn(
-                slots, scalars, list, directory, cells, marks, order, table, roots, words, bytes,
-                places, out, input,
-            );
+            self.turn(lent, input);
         }
     }
 }

@@ -1,16 +1,22 @@
-use mathlib.Core.Path.{refl}
 use Rattle.text.proofs.WritesLaws.{writes-lent}
-use Rattle.script.proofs.CallLaws.{known_goes, unknown_goes}
+use Rattle.script.proofs.CallLaws.{kept_out, known_goes, unknown_goes}
 use Rattle.script.proofs.Session.call_turn.Goals as goal
 
-pub returns-in_default : goal.returns-in_default
-returns-in_default c =
-    unknown_goes c.args.code c.args.o c.args.l.words c.args.l.end c.args.l.bytes c.args.l.places c.args.next _ c.requires.session_ready
-    record { slots = c.slots-1.given; scalars = c.scalars-1.given; list = c.list-1.given; directory = c.directory-1.given; cells = c.cells-1.given; marks = c.marks-1.given; order = c.order-1.given; table = refl; roots = refl; words = refl; bytes = c.bytes-1.given; places = c.places-1.given; out = c.ended.ensures.text.size }
-    c.perform_in-performed.ensures.commanded_by c.perform_in-performed.ensures.ready_2 c.requires.at_lt_next.0 c.requires.at_lt_next.1 c.requires.s_value.1 c.requires.s_value.2 c.in_default.is c.ended.ensures refl
+pub returns-in_default-clause-goes : goal.returns-in_default-clause-goes
+returns-in_default-clause-goes c =
+    let done = c.perform_in-performed.ensures in
+    unknown_goes c.args.code c.args.o c.args.l.words c.args.l.end c.args.l.bytes c.args.l.places c.args.next _ c.requires.session_ready (kept_out done.kept c.ended.ensures.text.size)
+    done.commanded_by done.ready_2 c.requires.at_lt_next.0 c.requires.at_lt_next.1 c.requires.s_value.1 c.requires.s_value.2 c.in_default.is (rw done.unchanged.3 at c.ended.ensures) done.unchanged.1
 
-pub returns : goal.returns
-returns c =
-    known_goes c.args.code c.args.o c.args.l.words c.args.l.end c.args.l.bytes c.args.l.places c.args.next _ c.requires.session_ready
-    record { slots = c.slots-1.given; scalars = c.scalars-1.given; list = c.list-1.given; directory = c.directory-1.given; cells = c.cells-1.given; marks = c.marks-1.given; order = c.order-1.given; table = refl; roots = refl; words = refl; bytes = c.bytes-1.given; places = c.places-1.given; out = c.out-2-1.given.1.0 }
-    c.perform_in-performed.ensures.commanded_by c.perform_in-performed.ensures.ready_2 c.requires.at_lt_next.0 c.requires.at_lt_next.1 c.args.s c.in-Some.is c.requires.s_value.0 refl c.shown_bytes.ensures.1.0 (writes-lent c.put_shown.ensures c.out-2-1.given.1.1)
+pub returns-clause-goes : goal.returns-clause-goes
+returns-clause-goes c =
+    let done = c.perform_in-performed.ensures in
+    let line = writes-lent c.put_shown.ensures c.lent-1.given.1 in
+    known_goes c.args.code c.args.o c.args.l.words c.args.l.end c.args.l.bytes c.args.l.places c.args.next _ c.requires.session_ready (kept_out done.kept line.size)
+    done.commanded_by done.ready_2 c.requires.at_lt_next.0 c.requires.at_lt_next.1 c.args.s c.in-Some.is c.requires.s_value.0 done.unchanged.1 c.shown_bytes-shown_to.ensures.1.0 (rw done.unchanged.3 at line)
+
+pub returns-in_default-clause-kept : goal.returns-in_default-clause-kept
+returns-in_default-clause-kept c = kept_out c.perform_in-performed.ensures.kept c.ended.ensures.text.size
+
+pub returns-clause-kept : goal.returns-clause-kept
+returns-clause-kept c = let line = writes-lent c.put_shown.ensures c.lent-1.given.1 in kept_out c.perform_in-performed.ensures.kept line.size
