@@ -1,5 +1,6 @@
-// Readings by their number. A group's rows are a match: each code makes another call with other
-// operands, and an enum of the codes would take the same rows to be made of a byte.
+// Readings by their number. A group's rows are a match, a line for code and call: the calls differ in
+// the type that they answer, so that a table has no one type, and an enum of the codes would take the
+// same rows to be made of a byte.
 ghost use Rattle.std.specs.Prelude.{◌≡◌};
 ghost use Rattle.map_store.specs.View.{cursor_is};
 ghost use Rattle.model.specs.Calls as Calls;
