@@ -563,6 +563,15 @@ fn script_room(
         && LINE <= out
 }
 
+// Those of `callsheet`.
+const WEIGHTS: Weights = Weights {
+    slot: 64,
+    entry: 40,
+    iterator: 80,
+    coroutine: 160,
+    frame: 32,
+};
+
 // The heap before the first command: callsheet's, with the layout that the first byte is.
 pub fn start(
     slots: &[u64],
@@ -604,17 +613,10 @@ pub fn start(
     ) {
         return Err(NotStarted::Short);
     }
-    let weights = Weights {
-        slot: 64,
-        entry: 40,
-        iterator: 80,
-        coroutine: 160,
-        frame: 32,
-    };
     let opened = heap::open(
         256,
         1048576,
-        weights,
+        WEIGHTS,
         &input[..input.len().min(1)],
         table,
         marks,
