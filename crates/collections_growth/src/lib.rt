@@ -36,7 +36,7 @@ pub fn map_of(h: Header, x: MapScalars) -> MapStore
 }
 
 // The cells of a slot with this header.
-fn region(cells: &[u64], h: Header) -> &[u64]
+pub fn region(cells: &[u64], h: Header) -> &[u64]
     requires { h.start + h.size ≤ length cells.now }
     ensures { result.now ≡ region_of h cells.now }
 {

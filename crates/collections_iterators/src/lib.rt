@@ -5,7 +5,7 @@ ghost use Rattle.std.specs.Prelude.{◌≡◌, ◌<◌};
 ghost use Rattle.heap_slots.specs.Scalars.{scalars_of_iterator};
 ghost use Rattle.map_store.specs.View.{cursor_is};
 ghost use Rattle.model.specs.Calls as Calls;
-ghost use Rattle.heap.specs.Answers.{made_is, reading_is, test_is};
+ghost use Rattle.heap.specs.Answers.{made_is, missing, reading_is, test_is};
 ghost use Rattle.heap.specs.Kinds.{cursor_of};
 ghost use Rattle.heap.specs.State.{state};
 ghost use Rattle.heap.specs.Good.{Good};
@@ -21,7 +21,7 @@ ghost use Rattle.collections_iterators.specs.Visits.{ArrayKnown, Ends, Moves, Vi
 use collections_growth::{item, map_in};
 use heap::{Heap, HeapView, Refusal, lookup};
 use heap_allocation::making;
-use heap_slots::{Header, IteratorScalars, MapScalars, Scalars, kinds};
+use heap_slots::{Header, IteratorScalars, MapScalars, Miss, Scalars, kinds};
 use map_store::Cursor;
 
 // An iterator's cursor: over an array its index alone.
@@ -263,6 +263,14 @@ fn begin_iter(
     making::new_with_scalars(heap, slots, scalars, list, directory, cells, h, x, bytes)
 }
 
+// Why there is no iterator over a source that reaches nothing.
+#[tactic(auto, unfolding(heap::specs::Answers::missing))]
+fn source_missed(miss: Miss) -> Refusal
+    ensures { result ≡ missing miss }
+{
+    Refusal::from(miss)
+}
+
 // An iterator over an array or a map.
 pub fn new_iter(
     heap: &mut Heap,
@@ -276,7 +284,10 @@ pub fn new_iter(
     requires { Good (state heap.old slots.old scalars.old list.now directory.now cells.now) }
     ensures { Performs (Calls.new_iter source) (state heap.old slots.old scalars.old list.now directory.now cells.now) (made_is result) (state heap.new slots.new scalars.new list.now directory.now cells.now) }
 {
-    let j = heap_slots::find(slots, heap.fresh, source)?;
+    let j = match heap_slots::find(slots, heap.fresh, source) {
+        Ok(j) => j,
+        Err(miss) => return Err(source_missed(miss)),
+    };
     match heap_slots::read_header(slots, j).kind {
         kinds::ARRAY => begin_iter(heap, slots, scalars, list, directory, cells, source, 0),
         kinds::MAP => {

@@ -26,20 +26,20 @@ use map_store::MapStore;
 // What an insertion into a map asks: the bytes that it is charged, the cells that the map then has,
 // and how many more these are.
 #[derive(Clone, Copy, Debug, PartialEq, Eq)]
-struct Insertion {
-    map: MapStore,
-    bytes: u64,
-    size: u64,
-    more: u64,
-    traced: bool,
+pub struct Insertion {
+    pub map: MapStore,
+    pub bytes: u64,
+    pub size: u64,
+    pub more: u64,
+    pub traced: bool,
 }
 
 // What a removal from a map asks: the cells that the map then has, and how many more these are.
 #[derive(Clone, Copy, Debug, PartialEq, Eq)]
-struct Removal {
-    map: MapStore,
-    size: u64,
-    more: u64,
+pub struct Removal {
+    pub map: MapStore,
+    pub size: u64,
+    pub more: u64,
 }
 
 // The noted key's word, 0 where there is none.

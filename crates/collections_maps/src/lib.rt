@@ -11,6 +11,7 @@ ghost use Rattle.heap.specs.View.{held};
 ghost use Rattle.collections_maps.specs.Answers.{step_seen, lent_seen};
 ghost use Rattle.collections_maps.specs.Reading.{MapAt};
 
+pub use changes::{Insertion, Removal};
 use collections_growth::map_in;
 use heap::{HeapView, Refusal, lookup};
 use heap_slots::{MapScalars, kinds};

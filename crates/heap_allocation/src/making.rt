@@ -30,6 +30,7 @@ pub fn new_plain(
 }
 
 // An object without cells that has scalars.
+#[inline(always)]
 pub fn new_with_scalars(
     heap: &mut Heap,
     slots: &mut [u64],

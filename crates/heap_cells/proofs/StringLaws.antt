@@ -114,6 +114,17 @@ piece_packs {bs} {chunk} {rest} {rest'} {n} q p =
           ∙ ap (λ (a : ℕ). get_or bs a 0) (omega arith);
     }
 
+-- of the bytes from `at` on, as many as a cell takes
+pub packs_part : {bs : List ℕ} {at n w : ℕ} → Packs (take n (drop at bs)) 0 w → ((k : ℕ) → k < 8 → at + k < length bs → k < n) → Packs bs at w
+packs_part {bs} {at} {n} p f =
+    record {
+      each = λ k lk h.
+          let kn : k < n = f k lk h in
+          let kz : 0 + k < n = omega (arith, kn) in
+          p.each k lk (omega (arith, kn, length-take n (drop at bs), length-drop at bs)) ∙ get_or-take n (drop at bs) (0 + k) 0 kz ∙ get_or-drop at bs (0 + k) 0
+          ∙ ap (λ (a : ℕ). get_or bs a 0) (omega arith);
+    }
+
 pub piece_rest : {bs chunk rest rest' : List ℕ} {n : ℕ} → Piece bs chunk rest rest' n → rest' ≡ drop ((n + 1) * 8) bs
 piece_rest {bs} {chunk} {rest} {rest'} {n} q =
     ext_get_or 0 rest' (drop ((n + 1) * 8) bs) (omega (arith, q.size, rest-length q, piece-length q, length-drop ((n + 1) * 8) bs))

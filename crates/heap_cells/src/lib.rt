@@ -41,7 +41,10 @@ pub fn copy_words(words: &[u64], cells: &mut [u64], from: usize)
     requires { (from + length words.now ≤ length cells.old) × (length cells.old ≤ CELLS_MAX) }
     ensures { Copied words.now cells.old cells.new from }
 {
-    cells[from..from + words.len()].copy_from_slice(words);
+    // Not `copy_from_slice`: with it the library for C needs memmove from outside.
+    for (j, word) in words.iter().enumerate() {
+        cells[from + j] = *word;
+    }
 }
 
 // The cell of at most eight bytes, the others zero.
@@ -49,6 +52,10 @@ fn pack(bytes: &[u8]) -> u64
     requires { length bytes.now ≤ 8 }
     ensures { Packs bytes.now 0 result }
 {
+    // A whole cell is one load: a copy into eight zeros takes several times as long.
+    if let [a, b, c, d, e, f, g, h] = bytes {
+        return u64::from_le_bytes([*a, *b, *c, *d, *e, *f, *g, *h]);
+    }
     let mut eight = [0; 8];
     eight[..bytes.len()].copy_from_slice(bytes);
     u64::from_le_bytes(eight)
@@ -59,8 +66,12 @@ pub fn write_string(bytes: &[u8], cells: &mut [u64], from: usize)
     requires { (from + string_cells (length bytes.now) ≤ length cells.old) × (length cells.old ≤ CELLS_MAX) }
     ensures { Written bytes.now cells.old cells.new from }
 {
-    for (q, chunk) in bytes.chunks(8).enumerate() {
-        cells[from + q] = pack(chunk);
+    let whole = bytes.len() / 8;
+    for q in 0..whole {
+        cells[from + q] = pack(&bytes[q * 8..q * 8 + 8]);
+    }
+    if whole * 8 < bytes.len() {
+        cells[from + whole] = pack(&bytes[whole * 8..]);
     }
 }
 

@@ -6,7 +6,7 @@
 
 ghost use Rattle.std.specs.Prelude.{◌≡◌, true, ◌+◌, ◌<◌, ◌≤◌, ◌++◌, length, MatchOption};
 ghost use Rattle.std.proofs.lemmas.List.Edits.{sets};
-ghost use Rattle.layout.specs.Sections.{is_layout, starts, begin_of, base_of, count_of, section_of, Tabled, LayoutRead};
+ghost use Rattle.layout.specs.Sections.{is_layout, starts, begin_of, base_of, count_of, section_of, lister_of, Continues, Tabled, LayoutRead};
 ghost use Rattle.layout.specs.Check.{u16_bytes, Reads, takes};
 
 const TABLE: usize = 514;
@@ -195,6 +195,29 @@ pub fn read_layout(bytes: &[u8], table: &mut [u64]) -> Result<(), BadLayout>
     Ok(())
 }
 
+// The next number that commands of such an entry list, from a place in their section on.
+pub fn next_listed(bytes: &[u8], entry: Entry, at: usize) -> Option<Listed>
+    ensures { Continues (lister_of entry) bytes.now at result }
+{
+    let mut rest = bytes.get(at..)?;
+    while let Some((command, after)) = read_command(rest) {
+        let Command::Lists(listed, number) = command else {
+            return None;
+        };
+        if listed == entry {
+            return Some(Listed {
+                number: u64::from(number),
+                next: bytes.len() - after.len(),
+            });
+        }
+        if listed.section() != entry.section() {
+            return None;
+        }
+        rest = after;
+    }
+    None
+}
+
 // The bytes of a layout that was read, and its table.
 #[derive(Clone, Copy)]
 pub struct ReadLayout<'a> {
@@ -204,7 +227,7 @@ pub struct ReadLayout<'a> {
 }
 
 impl ReadLayout<'_> {
-    ghost use Rattle.layout.specs.Sections.{lister_of, Continues, SectionAt};
+    ghost use Rattle.layout.specs.Sections.{SectionAt};
 
     // Where the section of a type or function begins; an unknown one's is the end of the bytes.
     pub fn section(&self, kind: Section, number: u64) -> usize
@@ -221,22 +244,6 @@ impl ReadLayout<'_> {
     pub fn next(&self, entry: Entry, at: usize) -> Option<Listed>
         ensures { Continues (lister_of entry) self.now.bytes.now at result }
     {
-        let mut rest = self.bytes.get(at..)?;
-        while let Some((command, after)) = read_command(rest) {
-            let Command::Lists(listed, number) = command else {
-                return None;
-            };
-            if listed == entry {
-                return Some(Listed {
-                    number: u64::from(number),
-                    next: self.bytes.len() - after.len(),
-                });
-            }
-            if listed.section() != entry.section() {
-                return None;
-            }
-            rest = after;
-        }
-        None
+        next_listed(self.bytes, entry, at)
     }
 }

@@ -4,8 +4,14 @@
 #![tactic(auto)]
 
 ghost use Rattle.std.specs.Prelude.{◌≡◌};
+ghost use Rattle.map_store.specs.View.{cursor_is};
+ghost use Rattle.model.specs.Calls as Calls;
+ghost use Rattle.heap.specs.Answers.{made_is};
 ghost use Rattle.heap.specs.Good.{Good};
+ghost use Rattle.heap.specs.Promise.{Performs, Reads};
 ghost use Rattle.heap.specs.View.{held};
+ghost use Rattle.heap_allocation.specs.Coroutines.{call_of};
+ghost use Rattle.collections_maps.specs.Answers.{lent_seen};
 ghost use Rattle.lent_forms.specs.Held.{Opened, held_in};
 
 use heap::{Heap, HeapView, Refusal};
@@ -132,6 +138,39 @@ impl Small {
         }
     }
 
+    // ---- the lent forms
+
+    fn made_from(
+        &mut self,
+        k: Coroutine,
+        registers: &[u64],
+        frames: &[Frame],
+    ) -> Result<u64, Refusal>
+        requires { Good (held_in self.old) }
+        ensures { Performs (call_of k registers.now frames.now) (held_in self.old) (made_is result) (held_in self.new) }
+    {
+        heap_allocation::new_coroutine(
+            &mut self.heap,
+            &mut self.slots,
+            &mut self.scalars,
+            &self.list,
+            &mut self.directory,
+            &mut self.cells,
+            k,
+            registers,
+            frames,
+        )
+    }
+
+    fn next_from(&self, w: u64, cursor: &mut Cursor) -> Result<Option<u64>, Refusal>
+        requires { Good (held_in self.now) }
+        ensures { Reads (Calls.next w (cursor_is cursor.old)) (held_in self.now) (lent_seen (cursor_is cursor.new) result) }
+    {
+        collections_maps::next(&self.view(), w, cursor)
+    }
+
+    // ---- what is printed
+
     // A coroutine's two frames; a third is not there.
     fn frames(&self, rt: &impl Print, w: u64) -> io::Result<()>
         requires { Good (held_in self.now) }
@@ -156,18 +195,7 @@ impl Small {
             result: 0,
             signal: 0,
         };
-        let made = heap_allocation::new_coroutine(
-            &mut self.heap,
-            &mut self.slots,
-            &mut self.scalars,
-            &self.list,
-            &mut self.directory,
-            &mut self.cells,
-            k,
-            &[0; 3],
-            &two_frames(),
-        );
-        match made {
+        match self.made_from(k, &[0; 3], &two_frames()) {
             Err(q) => print_refusal(rt, q),
             Ok(w) => self.frames(rt, w),
         }
@@ -209,14 +237,13 @@ impl Small {
     fn steps(&self, rt: &impl Print, w: u64) -> io::Result<()>
         requires { Good (held_in self.now) }
     {
-        let view = self.view();
         let mut cursor = Cursor {
             last: None,
             pos: 0,
             epoch: 0,
         };
         for _ in 0..5 {
-            let answer = collections_maps::next(&view, w, &mut cursor);
+            let answer = self.next_from(w, &mut cursor);
             print_step(rt, answer, cursor)?;
         }
         Ok(())

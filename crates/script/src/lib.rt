@@ -21,6 +21,7 @@ ghost use Rattle.script.specs.Turns.{EndLine, Fronts, Goes, Kept, LargeLine, Len
 use answers::Shown;
 use commands::{Memory, Operands, Shape};
 use heap::Heap;
+pub use lines::{FieldForm, Forms};
 use model::Weights;
 use text::Writer;
 

@@ -9,19 +9,20 @@ use text::Writer;
 
 // How a number that is answered beside the word is shown.
 #[derive(Clone, Copy, Debug, PartialEq, Eq)]
-enum FieldForm {
+pub enum FieldForm {
     Absent,
     Decimal,
     Hexadecimal,
 }
 
+// How the numbers beside an answered word are shown.
 #[derive(Clone, Copy, Debug, PartialEq, Eq)]
-struct Forms {
-    x: FieldForm,
-    y: FieldForm,
-    z: FieldForm,
-    u: FieldForm,
-    v: FieldForm,
+pub struct Forms {
+    pub x: FieldForm,
+    pub y: FieldForm,
+    pub z: FieldForm,
+    pub u: FieldForm,
+    pub v: FieldForm,
 }
 
 const ALL_ABSENT: Forms = Forms {

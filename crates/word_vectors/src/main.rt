@@ -2,7 +2,8 @@
 // judged: one-byte commands with little-endian operands, one line printed for each.
 #![tactic(auto)]
 
-ghost use Rattle.std.specs.Prelude.{◌≤◌, ◌<◌, length, OnSome};
+ghost use Rattle.std.specs.Prelude.{[], ◌∷◌, ◌≡◌, ◌≤◌, ◌<◌, ◌+◌, length, take, drop, IfOk, IfErr, MatchOption, OnOk, OnSome};
+ghost use Rattle.std.specs.Int.{w64, from_le_bytes};
 
 use layout::BadLayout;
 use std::num::{f64_from_bits_with_nan, f64_to_bits_with_nan};
@@ -102,6 +103,7 @@ struct Script<'a> {
 
 impl<'a> Script<'a> {
     fn byte(&mut self) -> Option<u8>
+        ensures first { MatchOption result ((self.old.rest.now ≡ []) × (self.new.rest.now ≡ [])) (λ b. self.old.rest.now ≡ b ∷ self.new.rest.now) }
         ensures shorter { OnSome result (length self.new.rest.now < length self.old.rest.now) }
         ensures within { length self.new.rest.now ≤ length self.old.rest.now }
     {
@@ -111,7 +113,10 @@ impl<'a> Script<'a> {
     }
 
     fn word(&mut self) -> Result<u64, Refusal>
-        ensures { length self.new.rest.now ≤ length self.old.rest.now }
+        ensures value { IfOk result (λ w. w ≡ from_le_bytes w64 (take 8 self.old.rest.now)) }
+        ensures left { OnOk result ((self.new.rest.now ≡ drop 8 self.old.rest.now) × (length self.new.rest.now + 8 ≡ length self.old.rest.now)) }
+        ensures missing { IfErr result (λ e. (e ≡ Refusal.NoCommand) × (length self.old.rest.now < 8) × (self.new.rest.now ≡ self.old.rest.now)) }
+        ensures within { length self.new.rest.now ≤ length self.old.rest.now }
     {
         let (bytes, rest) = self.rest.split_first_chunk().ok_or(Refusal::NoCommand)?;
         self.rest = rest;
@@ -119,7 +124,10 @@ impl<'a> Script<'a> {
     }
 
     fn bytes(&mut self, count: u64) -> Result<&'a [u8], Refusal>
-        ensures { length self.new.rest.now ≤ length self.old.rest.now }
+        ensures value { IfOk result (λ bs. bs.now ≡ take count self.old.rest.now) }
+        ensures left { OnOk result ((self.new.rest.now ≡ drop count self.old.rest.now) × (count ≤ length self.old.rest.now)) }
+        ensures missing { IfErr result (λ e. (e ≡ Refusal.NoCommand) × (length self.old.rest.now < count) × (self.new.rest.now ≡ self.old.rest.now)) }
+        ensures within { length self.new.rest.now ≤ length self.old.rest.now }
     {
         let (bytes, rest) = self
             .rest
@@ -153,7 +161,9 @@ fn reading(word: u64) -> Answer {
 
 // An opening, by its sizes, its weights and its layout.
 fn opening(script: &mut Script) -> Result<Answer, Refusal>
-    ensures { length script.new.rest.now ≤ length script.old.rest.now }
+    ensures accepted { OnOk result (length script.new.rest.now + 72 ≤ length script.old.rest.now) }
+    ensures judged { IfErr result (λ e. e ≡ Refusal.BadOpening → length script.new.rest.now + 72 ≤ length script.old.rest.now) }
+    ensures within { length script.new.rest.now ≤ length script.old.rest.now }
 {
     let slots = script.word()?;
     let cells = script.word()?;

@@ -1,14 +1,14 @@
 use Rattle.std.proofs.Common.{◌≡◌, ◌-◌, ◌<◌, length, drop, ◌∙◌, sym, rules, arith, length-drop}
 use Rattle.std.proofs.Math.Seq.{take_all}
 use Rattle.layout.proofs.Listing.{listing_start, listing_past, listing_unread, listing_over, listing_found, listing_foreign, listing_passed}
-use Rattle.layout.proofs.ReadLayout.next.Goals as goal
+use Rattle.layout.proofs.next_listed.Goals as goal
 
 pub returns-in_err-rest : goal.returns-in_err-rest
-returns-in_err-rest c = rw c.from_residual.ensures (let past : length c.args.self.now.bytes.now < c.args.at = grind (arith, c.in_err-rest.ensures.lookup) in listing_past _ _ _ past)
+returns-in_err-rest c = rw c.from_residual.ensures (let past : length c.args.bytes.now < c.args.at = grind (arith, c.in_err-rest.ensures.lookup) in listing_past _ _ _ past)
 
 pub loop-command-init : goal.loop-command-init
 loop-command-init c =
-    let bs = c.args.self.now.bytes.now in
+    let bs = c.args.bytes.now in
     listing_start c.args.entry c.in_ok-rest.ensures.lookup.0.0 (c.in_ok-rest.ensures.lookup.0.2 ∙ take_all (length bs - c.args.at) (drop c.args.at bs) (omega (arith, length-drop c.args.at bs)))
 
 pub returns-in_default-command : goal.returns-in_default-command
