@@ -159,10 +159,18 @@ fn reading(word: u64) -> Answer {
     }
 }
 
-// An opening, by its sizes, its weights and its layout.
-fn opening(script: &mut Script) -> Result<Answer, Refusal>
-    ensures accepted { OnOk result (length script.new.rest.now + 72 ≤ length script.old.rest.now) }
-    ensures judged { IfErr result (λ e. e ≡ Refusal.BadOpening → length script.new.rest.now + 72 ≤ length script.old.rest.now) }
+// The numbers of an opening, before its layout.
+#[derive(Clone, Copy)]
+struct Sizes {
+    slots: u64,
+    cells: u64,
+    weights: [u64; 5],
+    layout: u64,
+}
+
+fn read_sizes(script: &mut Script) -> Result<Sizes, Refusal>
+    ensures nine_words { OnOk result (length script.new.rest.now + 72 ≡ length script.old.rest.now) }
+    ensures missing { IfErr result (λ e. e ≡ Refusal.NoCommand) }
     ensures within { length script.new.rest.now ≤ length script.old.rest.now }
 {
     let slots = script.word()?;
@@ -172,11 +180,29 @@ fn opening(script: &mut Script) -> Result<Answer, Refusal>
     for weight in &mut weights {
         *weight = script.word()?;
     }
-    let count = script.word()?;
-    let layout = script.bytes(count)?;
-    if !(1..=65536).contains(&slots)
-        || cells > 1048576
-        || !weights.iter().all(|weight| (1..=4096).contains(weight))
+    let layout = script.word()?;
+    Ok(Sizes {
+        slots,
+        cells,
+        weights,
+        layout,
+    })
+}
+
+// An opening, by its sizes, its weights and its layout.
+fn opening(script: &mut Script) -> Result<Answer, Refusal>
+    ensures accepted { OnOk result (length script.new.rest.now + 72 ≤ length script.old.rest.now) }
+    ensures judged { IfErr result (λ e. e ≡ Refusal.BadOpening → length script.new.rest.now + 72 ≤ length script.old.rest.now) }
+    ensures within { length script.new.rest.now ≤ length script.old.rest.now }
+{
+    let sizes = read_sizes(script)?;
+    let layout = script.bytes(sizes.layout)?;
+    if !(1..=65536).contains(&sizes.slots)
+        || sizes.cells > 1048576
+        || !sizes
+            .weights
+            .iter()
+            .all(|weight| (1..=4096).contains(weight))
     {
         return Err(Refusal::BadOpening);
     }
